@@ -1,0 +1,10 @@
+pub mod Table
+pub mod Bytes
+pub mod Parts
+pub mod Branches
+pub mod Ranges
+pub mod Frames
+pub mod Samples
+pub mod Received
+pub mod ReadBack
+pub mod Bench

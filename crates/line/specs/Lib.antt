@@ -1,0 +1,6 @@
+pub mod Sending
+pub mod Range
+pub mod Arrived
+pub mod Receiving
+pub mod Reading
+pub mod Sees

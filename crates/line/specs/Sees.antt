@@ -1,0 +1,12 @@
+-- When the looks of a receiver see a frame, however its samples were come by.
+-- Assumes nothing.
+use Prim.Native.Nat.{ℕ, suc, _+_, _*_, _≤_}
+use mathlib.Core.Path.{_≡_}
+use mathlib.Core.Bool.{Bool, false}
+use Rattle.line.specs.declared.Format.{Format}
+use Rattle.line.specs.Sending.{half, parityBits, levelOf}
+
+-- the samples g 0, g 1, .. begin with a start's edge, and each look sees its bit of a frame of c, up to the stop
+pub record Sees (f : Format) (c : ℕ) (g : ℕ → Bool) : Type 0 where
+  pub edge : g 0 ≡ false
+  pub looks : (m : ℕ) → m ≤ suc (f .length + parityBits f) → g (half f + f .factor * m) ≡ levelOf f c m

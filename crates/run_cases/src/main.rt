@@ -1,0 +1,287 @@
+// Document 01's bench cases that are run, and recordings drawn at random, read by the receiver and written out for comparison.
+use libc::STDOUT_FILENO;
+use line::Arrival;
+use line::Format;
+use line::Heard;
+use line::Receiver;
+
+// A recording while it is read: the samples so far, the characters that came and a sum over them. `list` writes out each.
+struct Bench {
+    receiver: Receiver,
+    samples: u32,
+    characters: u32,
+    sum: u32,
+    list: bool,
+    seed: u32,
+}
+
+fn fresh(list: bool, seed: u32) -> Bench {
+    Bench {
+        receiver: line::waiting(),
+        samples: 0,
+        characters: 0,
+        sum: 0,
+        list: list,
+        seed: seed,
+    }
+}
+
+fn text(bytes: &[u8]) {
+    io::write_all(STDOUT_FILENO, bytes);
+}
+
+fn field(n: u32) {
+    text(b"\t");
+    io::print_decimal(STDOUT_FILENO, n as u64);
+}
+
+fn small(n: u8) {
+    field(n as u32);
+}
+
+fn title(kind: &[u8], f: Format) {
+    text(kind);
+    small(f.factor);
+    small(f.length);
+    small(f.parity);
+    small(f.even);
+    small(f.stop);
+}
+
+// The flags at their places in the status register: framing 5, parity 3.
+fn flags(a: Arrival) -> u8 {
+    if a.framing {
+        if a.parity {
+            return 40;
+        }
+        return 32;
+    }
+    if a.parity {
+        return 8;
+    }
+    0
+}
+
+fn mixed(sum: u32, x: u32) -> u32 {
+    ((sum as u64 * 31 + x as u64) % 4294967296) as u32
+}
+
+fn came(b: Bench, a: Arrival) -> Bench {
+    let mut next = b;
+    let n = flags(a);
+    let value = a.value;
+    next.characters = std::num::wrapping_add_u32(b.characters, 1);
+    next.sum = mixed(mixed(mixed(b.sum, b.samples), value as u32), n as u32);
+    if b.list {
+        text(b"C");
+        field(b.samples);
+        small(value);
+        small(n);
+        text(b"\n");
+    }
+    next
+}
+
+fn take(f: Format, b: Bench, x: bool) -> Bench {
+    let mut next = b;
+    let r = b.receiver;
+    let s = line::sample(f, r, x);
+    let after = s.next;
+    next.receiver = after;
+    next.samples = std::num::wrapping_add_u32(b.samples, 1);
+    let heard = s.heard;
+    match heard {
+        Heard::Nothing => next,
+        Heard::Character(a) => came(next, a),
+    }
+}
+
+fn hold(f: Format, b: Bench, x: bool, n: u32) -> Bench {
+    let mut next = b;
+    for _ in 0..n {
+        next = take(f, next, x);
+    }
+    next
+}
+
+// The first n levels of a frame of c in the format g, as the receiver reads them in f.
+fn send(f: Format, g: Format, b: Bench, c: u8, n: u16) -> Bench {
+    let mut next = b;
+    for place in 0..n {
+        next = take(f, next, line::level(g, c, place));
+    }
+    next
+}
+
+fn drawn(b: Bench) -> Bench {
+    let mut next = b;
+    next.seed = ((b.seed as u64 * 1664525 + 1013904223) % 4294967296) as u32;
+    next
+}
+
+// What a bench has drawn, below n.
+fn below(b: Bench, n: u32) -> u32 {
+    if n == 0 {
+        return 0;
+    }
+    (b.seed / 65536) % n
+}
+
+// A frame of a character that is drawn: whole, or cut short where `whole` is false.
+fn frame(f: Format, g: Format, b: Bench, whole: bool) -> Bench {
+    let first = drawn(b);
+    let c = (below(first, 256) % 256) as u8;
+    let ticks = line::frame_length(g);
+    if whole {
+        return send(f, g, first, c, (ticks % 65536) as u16);
+    }
+    let second = drawn(first);
+    send(f, g, second, c, (below(second, ticks) % 65536) as u16)
+}
+
+fn noise(f: Format, b: Bench) -> Bench {
+    let first = drawn(b);
+    let x = below(first, 2) == 1;
+    let second = drawn(first);
+    hold(
+        f,
+        second,
+        x,
+        std::num::wrapping_add_u32(below(second, f.factor as u32), 1),
+    )
+}
+
+fn mark(f: Format, b: Bench) -> Bench {
+    let first = drawn(b);
+    hold(
+        f,
+        first,
+        true,
+        std::num::wrapping_add_u32(below(first, f.factor as u32 * 3), 1),
+    )
+}
+
+// Half a start bit, and the single 1 that makes it a false start.
+fn false_start(f: Format, b: Bench) -> Bench {
+    hold(f, hold(f, b, false, line::half(f) as u32), true, 1)
+}
+
+fn other_parity(f: Format) -> Format {
+    let mut g = f;
+    g.even = 1;
+    if f.even == 1 {
+        g.even = 0;
+    }
+    g
+}
+
+fn piece(f: Format, b: Bench) -> Bench {
+    let first = drawn(b);
+    let kind = below(first, 6);
+    match kind {
+        0 => mark(f, first),
+        1 => frame(f, f, first, true),
+        2 => frame(f, other_parity(f), first, true),
+        3 => frame(f, f, first, false),
+        4 => noise(f, first),
+        _ => false_start(f, first),
+    }
+}
+
+fn pieces(f: Format, b: Bench, n: u32) -> Bench {
+    let mut next = b;
+    for _ in 0..n {
+        next = piece(f, next);
+    }
+    next
+}
+
+// Forty pieces of line, drawn and read; what is drawn next goes on from there.
+fn sweep(f: Format, seed: u32) -> u32 {
+    let b = pieces(f, fresh(false, seed), 40);
+    title(b"V", f);
+    field(b.characters);
+    field(b.sum);
+    text(b"\n");
+    b.seed
+}
+
+fn stops(factor: u8, length: u8, parity: u8, even: u8, seed: u32) -> u32 {
+    let mut next = seed;
+    let mut f = Format {
+        factor: factor,
+        length: length,
+        parity: parity,
+        even: even,
+        stop: factor,
+    };
+    next = sweep(f, next);
+    if factor == 16 {
+        f.stop = 24;
+        next = sweep(f, next);
+    }
+    if factor == 64 {
+        f.stop = 96;
+        next = sweep(f, next);
+    }
+    f.stop = std::num::wrapping_add_u8(factor, factor);
+    sweep(f, next)
+}
+
+fn parities(factor: u8, length: u8, seed: u32) -> u32 {
+    let none = stops(factor, length, 0, 0, seed);
+    let ignored = stops(factor, length, 0, 1, none);
+    let odd = stops(factor, length, 1, 0, ignored);
+    stops(factor, length, 1, 1, odd)
+}
+
+fn formats(factor: u8, seed: u32) -> u32 {
+    let five = parities(factor, 5, seed);
+    let six = parities(factor, 6, five);
+    let seven = parities(factor, 7, six);
+    parities(factor, 8, seven)
+}
+
+// A format with no parity and one stop bit, and a bench that has its mark.
+fn plain(factor: u8) -> Format {
+    Format {
+        factor: factor,
+        length: 8,
+        parity: 0,
+        even: 0,
+        stop: factor,
+    }
+}
+
+fn marked(f: Format) -> Bench {
+    hold(f, fresh(true, 0), true, 1)
+}
+
+// Mark, some zeros, then ones.
+fn pulse(f: Format, zeros: u8) {
+    title(b"R", f);
+    small(zeros);
+    text(b"\n");
+    let dropped = hold(f, marked(f), false, zeros as u32);
+    hold(f, dropped, true, 1000);
+}
+
+// Mark, some zeros, a 1, other zeros, then ones: the 1 may serve as the mark for the second pulse.
+fn two_pulses(f: Format, zeros: u8, others: u8) {
+    title(b"R", f);
+    small(zeros);
+    small(others);
+    text(b"\n");
+    let first = hold(f, hold(f, marked(f), false, zeros as u32), true, 1);
+    let second = hold(f, first, false, others as u32);
+    hold(f, second, true, 1000);
+}
+
+fn main() {
+    pulse(plain(64), 32);
+    pulse(plain(64), 33);
+    two_pulses(plain(16), 8, 9);
+    let one = formats(1, 1);
+    let sixteen = formats(16, one);
+    formats(64, sixteen);
+}
