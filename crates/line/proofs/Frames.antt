@@ -106,7 +106,8 @@ module _ (f : Format) (c : ℕ) where
       ∙ ap (λ (r : List Bool). r ++ replicate (f .stop) true)
       (held-listed (f .factor) (levelOf f c) pos 0 (suc (f .length + parityBits f)) ∙ ap (λ (m : ℕ). listed (level f c) m (beforeStop f)) (mul-zero (f .factor)))
       ∙ ap (λ (r : List Bool). listed (level f c) 0 (beforeStop f) ++ r) (sym (listed-all (level f c) true (beforeStop f) (f .stop) (λ j l h. level-stop f c j pos l)))
-      ∙ rw (listed-append (level f c) 0 (beforeStop f) (f .stop), zero-add)
+      ∙ ap (λ (k : ℕ). listed (level f c) 0 (beforeStop f) ++ listed (level f c) k (f .stop)) (sym (zero-add (beforeStop f)))
+      ∙ sym (listed-append (level f c) 0 (beforeStop f) (f .stop))
 
 -- a frame lasts L ticks
 length-held : (k : ℕ) (xs : List Bool) → length (held k xs) ≡ k * length xs

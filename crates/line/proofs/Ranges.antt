@@ -28,6 +28,14 @@ factor-bounds : (x : ℕ) → isFactor x ≡ true → (0 < x) × (x ≤ 64)
 factor-bounds x e =
     ⊎-elim (λ h. omega arith) (λ h. ⊎-elim (λ l. omega arith) (λ l. omega arith) h) (one-of-three x _ _ _ e)
 
+between : (a b n : ℕ) → (leb a n && leb n b) ≡ true → (a ≤ n) × (n ≤ b)
+between a b n e =
+    let h = both (leb a n) (leb n b) e in
+    (leb-true a n (h .0), leb-true n b (h .1))
+
+length-bounds : (n : ℕ) → isLength n ≡ true → (5 ≤ n) × (n ≤ 8)
+length-bounds n e = let h = between _ _ n e in omega arith
+
 stop-bounds : (f : Format) → 0 < f .factor → isStop f ≡ true → (half f < f .stop) × (f .stop ≤ 2 * f .factor)
 stop-bounds f pos e =
     ⊎-elim (λ h. omega arith) (λ h. ⊎-elim (λ l. omega arith) (λ l. omega arith) h)
@@ -36,18 +44,18 @@ stop-bounds f pos e =
 pub in-range-bounds : (f : Format) → inRange f ≡ true → Bounds f
 unfolding inRange
 in-range-bounds f e =
-    let s = both (isFactor (f .factor) && isLength (f .length) && leb (f .parity) 1 && leb (f .even) 1) (isStop f) e in
-    let v = both (isFactor (f .factor) && isLength (f .length) && leb (f .parity) 1) (leb (f .even) 1) (s .0) in
-    let p = both (isFactor (f .factor) && isLength (f .length)) (leb (f .parity) 1) (v .0) in
+    let s = both _ (isStop f) e in
+    let v = both _ (leb (f .even) 1) (s .0) in
+    let p = both _ (leb (f .parity) 1) (v .0) in
     let n = both (isFactor (f .factor)) (isLength (f .length)) (p .0) in
-    let l = both (leb 5 (f .length)) (leb (f .length) 8) (n .1) in
+    let l = length-bounds (f .length) (n .1) in
     let F = factor-bounds (f .factor) (n .0) in
     let S = stop-bounds f (F .0) (s .1) in
     record {
       ticks = F .0;
       few = F .1;
-      long = leb-true _ _ (l .0);
-      short = leb-true _ _ (l .1);
+      long = l .0;
+      short = l .1;
       parity = leb-true _ _ (p .1);
       even = leb-true _ _ (v .1);
       stops = S .0;

@@ -18,7 +18,7 @@ use Rattle.line.specs.Arrived.{Arrived, later, delivered}
 use Rattle.line.specs.Sees.{Sees}
 use Rattle.line.proofs.Parts.{part-data, part-parity, part-stop}
 use Rattle.line.proofs.Frames.{in-bit, level-stop, length-listed, listed-append, listed-all, lev-listed, frame-levels}
-use Rattle.line.proofs.Samples.{marks-pass, arrivals-append, arrivals-later, sample-waiting}
+use Rattle.line.proofs.Samples.{marks-pass, silent-before, arrivals-later, sample-waiting}
 use Rattle.line.proofs.Received.{heard-at, received}
 
 -- == the number of a number's lowest bits is the number cut ==
@@ -134,7 +134,7 @@ module _ (f : Format) (c : ℕ) (rest : List Bool) (pos : 0 < f .factor) (stops 
 
   -- a search goes on through the marks
   tail-passes : (k : ℕ) → arrivals f searching k (replicate tail true ++ rest) ≡ arrivals f searching (k + tail) rest
-  tail-passes k = arrivals-append f searching k (replicate tail true) rest ∙ rw (marks-pass f tail .none k, marks-pass f tail .left, length-replicate)
+  tail-passes k = silent-before f searching searching k (replicate tail true) rest (marks-pass f tail) ∙ rw length-replicate
 
   after-mark : (ls : List Bool) → reading f (true ∷ ls) ≡ arrivals f searching 1 ls
   after-mark ls = sym (received f (true ∷ ls) pos) ∙ rw sample-waiting

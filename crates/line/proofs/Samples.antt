@@ -89,6 +89,11 @@ arrivals-append f r k (x ∷ xs) ys =
     (let e : suc k + length xs ≡ k + suc (length xs) = omega arith in e))
     ∙ tell-append (suc k) (sample f r x .heard) (arrivals f (sample f r x .next) (suc k) xs) (arrivals f (after f (sample f r x .next) xs) (k + suc (length xs)) ys)
 
+-- what brings nothing may stand before any samples
+pub silent-before : (f : Format) (r s : Receiver) (k : ℕ) (xs ys : List Bool) → Silent f r xs s
+    → arrivals f r k (xs ++ ys) ≡ arrivals f s (k + length xs) ys
+silent-before f r s k xs ys h = arrivals-append f r k xs ys ∙ rw (h .none k, h .left)
+
 tell-later : (j k : ℕ) (h : Heard) (rs : List Arrived) → map (later j) (tell k h rs) ≡ tell (j + k) h (map (later j) rs)
 tell-later j k Nothing rs = refl
 tell-later j k (Character a) rs = refl

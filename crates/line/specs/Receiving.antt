@@ -32,6 +32,7 @@ assembling c m v w = record { phase = 2; countdown = c; value = v; wrong = w; lo
 abbrev pub afterMark : Bool → Receiver
 afterMark x = cond x searching waiting
 
+-- nothing arrives
 abbrev pub quiet : Receiver → Sampled
 quiet r = record { next = r; heard = Nothing }
 
