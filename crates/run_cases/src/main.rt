@@ -1,4 +1,6 @@
 // Document 01's bench cases that are run, and recordings drawn at random, read by the receiver and written out for comparison.
+mod chip;
+
 use libc::STDOUT_FILENO;
 use line::Arrival;
 use line::Format;
@@ -284,4 +286,5 @@ fn main() {
     let one = formats(1, 1);
     let sixteen = formats(16, one);
     formats(64, sixteen);
+    chip::cases();
 }

@@ -3,7 +3,9 @@
 //!
 //! It covers the sections "Sending, by transmit ticks" and "Receiving, by
 //! receive ticks" of document 01, for a receiver that is on throughout
-//! and keeps one mode.
+//! and keeps one mode. The module `chip` has the whole chip.
+
+pub mod chip;
 
 /// How characters are put on the line. `stop` is in ticks, not in bits, so
 /// that one and a half needs no fraction (with a factor of 1 it counts as 1).
@@ -126,5 +128,18 @@ fn character_at(format: &Format, samples: &[bool], zero: usize) -> Character {
         value,
         parity: format.parity && bit(format.length) != format.parity_level(&data),
         framing: !samples[stop],
+    }
+}
+
+/// A linear congruential generator: any other program can repeat it exactly.
+pub struct Generator {
+    pub seed: u32,
+}
+
+impl Generator {
+    /// The low bits of such a generator repeat quickly, so the high half is used.
+    pub fn draw(&mut self, n: u32) -> u32 {
+        self.seed = self.seed.wrapping_mul(1664525).wrapping_add(1013904223);
+        (self.seed / 65536) % n
     }
 }

@@ -1,21 +1,10 @@
 //! Prints what the model reads from a few bench recordings and from a sweep of
-//! pseudo-random recordings, one for each format, as text with tabs: what the
-//! program `run_cases` has to write.
+//! pseudo-random recordings, one for each format, then what the chip answers in
+//! a few bench cases, as text with tabs: what the program `run_cases` has to
+//! write.
 
-use model::{frame, read, Character, Format};
-
-/// A linear congruential generator: any other program can repeat it exactly.
-struct Generator {
-    seed: u32,
-}
-
-impl Generator {
-    /// The low bits of such a generator repeat quickly, so the high half is used.
-    fn draw(&mut self, n: u32) -> u32 {
-        self.seed = self.seed.wrapping_mul(1664525).wrapping_add(1013904223);
-        (self.seed / 65536) % n
-    }
-}
+use model::chip::Chip;
+use model::{frame, read, Character, Format, Generator};
 
 /// The flags at their places in the status register: framing 5, parity 3.
 fn flags(character: &Character) -> u32 {
@@ -134,6 +123,59 @@ fn sum(characters: &[Character]) -> u32 {
     sum
 }
 
+/// A chip just reset, then set up to receive only, with all pins low.
+fn set_up(mode1: u8) -> Chip {
+    let mut chip = Chip::just_reset();
+    chip.write(2, mode1);
+    chip.write(2, 0);
+    chip.write(3, 4);
+    chip.set_pins(0, 0, 0);
+    chip
+}
+
+/// Receive ticks, one for each of `samples`.
+fn hear(chip: &mut Chip, samples: &[bool]) {
+    for &sample in samples {
+        chip.receive(u8::from(sample));
+    }
+}
+
+/// A read of each address in turn.
+fn show(chip: &mut Chip, addresses: &[u8]) {
+    for &address in addresses {
+        let (refusal, value) = chip.read(address);
+        println!("R\t{address}\t{refusal}\t{value}");
+    }
+}
+
+fn print_chip_cases() {
+    println!("K\tunread");
+    let mut chip = set_up(77);
+    hear(&mut chip, &run(true, 1));
+    hear(&mut chip, &frame(&plain(1), 65));
+    hear(&mut chip, &frame(&plain(1), 66));
+    show(&mut chip, &[1, 0, 1]);
+
+    println!("K\taddresses");
+    show(&mut Chip::just_reset(), &[3, 4]);
+
+    for zeros in [32, 33] {
+        println!("K\tzeros{zeros}");
+        let mut chip = set_up(79);
+        hear(&mut chip, &run(true, 1));
+        hear(&mut chip, &run(false, zeros));
+        hear(&mut chip, &run(true, 1000));
+        show(&mut chip, &[1, 0, 1]);
+    }
+
+    println!("K\tpulse");
+    let mut chip = set_up(78);
+    hear(&mut chip, &run(true, 100));
+    hear(&mut chip, &run(false, 3));
+    hear(&mut chip, &run(true, 1000));
+    show(&mut chip, &[1, 0]);
+}
+
 fn main() {
     print_pulses(&plain(64), &[32]);
     print_pulses(&plain(64), &[33]);
@@ -152,4 +194,5 @@ fn main() {
             sum(&characters)
         );
     }
+    print_chip_cases();
 }

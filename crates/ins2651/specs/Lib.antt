@@ -1,0 +1,10 @@
+pub mod Shape
+pub mod Modes
+pub mod Conditions
+pub mod Status
+pub mod Ranges
+pub mod Refusals
+pub mod RegisterReads
+pub mod RegisterWrites
+pub mod Pinning
+pub mod Ticks

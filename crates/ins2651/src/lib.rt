@@ -1,0 +1,832 @@
+// The INS2651 over its two halves: document 01's registers, pins, outputs and ticks.
+// Every call takes any number in any field. A device out of range is taken as one just reset; a refused call hands it back as given.
+ghost use mathlib.Core.Path.{_≡_};
+ghost use mathlib.Core.Bool.{cond};
+ghost use Prim.Native.Nat.{_≤_};
+ghost use Rattle.line.specs.Sending.{bit};
+ghost use Rattle.ins2651.specs.Shape.{resetDevice, withSyns};
+ghost use Rattle.ins2651.specs.Modes;
+ghost use Rattle.ins2651.specs.Modes.{factorOf, stopOf, formatOf, sendFormat, receiveFormat};
+ghost use Rattle.ins2651.specs.Conditions;
+ghost use Rattle.ins2651.specs.Conditions.{dataSetReady, clearToSend, modeSet, mayWrite};
+ghost use Rattle.ins2651.specs.Status;
+ghost use Rattle.ins2651.specs.Status.{modemBits, errorBits, readyBits, statusByte, outputsOf};
+ghost use Rattle.ins2651.specs.Ranges.{isMode1, mode1InRange, commandInRange, registersInRange, pinsInRange, flagsInRange, inRange, settled};
+ghost use Rattle.ins2651.specs.Refusals.{readRefusal, mode1Refusal, modeRefusal, commandRefusal, writeRefusal, pinsRefusal, levelRefusal};
+ghost use Rattle.ins2651.specs.RegisterReads;
+ghost use Rattle.ins2651.specs.RegisterReads.{readHolding, readStatus, readMode, readCommand, readRegister};
+ghost use Rattle.ins2651.specs.RegisterWrites;
+ghost use Rattle.ins2651.specs.RegisterWrites.{writeHolding, synsWritten, modesWritten, flagsCommanded, receiverCommanded, writeCommand, writeRegister};
+ghost use Rattle.ins2651.specs.Pinning.{setPins};
+ghost use Rattle.ins2651.specs.Pinning;
+ghost use Rattle.ins2651.specs.Ticks;
+ghost use Rattle.ins2651.specs.Ticks.{transmitTick, receiveTick};
+use line::Format;
+use line::Heard;
+use link::ReceiverHalf;
+use link::SenderHalf;
+
+// `accepted` is 1 once a mode 1 was accepted since reset; `modes` and `syns` are the two pointers.
+#[repr(C)]
+pub struct Registers {
+    pub mode1: u8,
+    pub mode2: u8,
+    pub accepted: u8,
+    pub command: u8,
+    pub syn1: u8,
+    pub syn2: u8,
+    pub dle: u8,
+    pub modes: u8,
+    pub syns: u8,
+}
+
+// The levels of the three modem inputs.
+#[repr(C)]
+pub struct Pins {
+    pub dsr: u8,
+    pub dcd: u8,
+    pub cts: u8,
+}
+
+// The three error flags, the empty-mark and the change-mark.
+#[repr(C)]
+pub struct Flags {
+    pub framing: u8,
+    pub overrun: u8,
+    pub parity: u8,
+    pub empty: u8,
+    pub change: u8,
+}
+
+#[repr(C)]
+pub struct Device {
+    pub registers: Registers,
+    pub pins: Pins,
+    pub sender: SenderHalf,
+    pub receiver: ReceiverHalf,
+    pub flags: Flags,
+}
+
+// What a register read answers.
+#[repr(C)]
+pub struct Answer {
+    pub refusal: u8,
+    pub value: u8,
+    pub device: Device,
+}
+
+// What a register write, a pin call or a receive tick answers.
+#[repr(C)]
+pub struct Outcome {
+    pub refusal: u8,
+    pub device: Device,
+}
+
+// What a transmit tick answers: the level sent.
+#[repr(C)]
+pub struct Ticked {
+    pub level: u8,
+    pub device: Device,
+}
+
+// The levels of the five outputs.
+#[repr(C)]
+pub struct OutputPins {
+    pub txrdy: u8,
+    pub rxrdy: u8,
+    pub txemt: u8,
+    pub dtr: u8,
+    pub rts: u8,
+}
+
+// == bits ==
+
+fn number(b: bool) -> u8
+    ensures { λ r. ⌜ r ≡ bit b ⌝ }
+{
+    if b { 1 } else { 0 }
+}
+
+// Whether the bit of weight w is 1.
+fn has(w: u8, v: u8) -> bool
+    ensures { λ r. ⌜ r ≡ Modes.has w v ⌝ }
+{
+    if w == 0 {
+        return false;
+    }
+    v / w % 2 == 1
+}
+
+fn unless(t: bool, x: u8) -> u8
+    ensures { λ r. ⌜ r ≡ RegisterWrites.unless t x ⌝ }
+{
+    if t { 0 } else { x }
+}
+
+fn or_set(t: bool, x: u8) -> u8
+    ensures { λ r. ⌜ r ≡ Pinning.orSet t x ⌝ }
+{
+    if t { 1 } else { x }
+}
+
+// == modes ==
+
+fn factor_of(m: u8, internal: bool) -> u8
+    ensures { λ r. ⌜ (r ≡ factorOf m internal) × (r ≤ 64) ⌝ }
+{
+    if internal {
+        return 16;
+    }
+    if m % 4 == 1 {
+        return 1;
+    }
+    if m % 4 == 2 {
+        return 16;
+    }
+    64
+}
+
+// Stop ticks.
+fn stop_of(m: u8, ticks: u8) -> u8
+    requires { ⌜ ticks ≤ 64 ⌝ }
+    ensures { λ r. ⌜ r ≡ stopOf m ticks ⌝ }
+{
+    if m / 64 == 1 {
+        return ticks;
+    }
+    if m / 64 == 2 {
+        return 3 * ticks / 2;
+    }
+    2 * ticks
+}
+
+fn format_of(m: u8, internal: bool) -> Format
+    ensures { λ r. ⌜ r ≡ formatOf m internal ⌝ }
+{
+    let factor = factor_of(m, internal);
+    Format {
+        factor: factor,
+        length: 5 + m / 4 % 4,
+        parity: m / 16 % 2,
+        even: m / 32 % 2,
+        stop: stop_of(m, factor),
+    }
+}
+
+fn send_format(r: Registers) -> Format
+    ensures { λ f. ⌜ f ≡ sendFormat r ⌝ }
+{
+    format_of(r.mode1, has(32, r.mode2))
+}
+
+fn receive_format(r: Registers) -> Format
+    ensures { λ f. ⌜ f ≡ receiveFormat r ⌝ }
+{
+    format_of(r.mode1, has(16, r.mode2))
+}
+
+// == conditions ==
+
+fn transmitting(d: Device) -> bool
+    ensures { λ r. ⌜ r ≡ Conditions.transmitting d ⌝ }
+{
+    has(1, d.registers.command)
+}
+
+fn carrier(d: Device) -> bool
+    ensures { λ r. ⌜ r ≡ Conditions.carrier d ⌝ }
+{
+    d.pins.dcd == 0
+}
+
+fn clear_to_send(d: Device) -> bool
+    ensures { λ r. ⌜ r ≡ clearToSend d ⌝ }
+{
+    d.pins.cts == 0
+}
+
+fn mode_set(d: Device) -> bool
+    ensures { λ r. ⌜ r ≡ modeSet d ⌝ }
+{
+    0 < d.registers.accepted
+}
+
+// A frame or a break may start.
+fn sending(d: Device) -> bool
+    ensures { λ r. ⌜ r ≡ Conditions.sending d ⌝ }
+{
+    transmitting(d) & clear_to_send(d) & mode_set(d)
+}
+
+fn breaking(d: Device) -> bool
+    ensures { λ r. ⌜ r ≡ Conditions.breaking d ⌝ }
+{
+    has(8, d.registers.command)
+}
+
+// A receive tick looks at its sample.
+fn receiving(d: Device) -> bool
+    ensures { λ r. ⌜ r ≡ Conditions.receiving d ⌝ }
+{
+    has(4, d.registers.command) & carrier(d) & mode_set(d)
+}
+
+fn unread(d: Device) -> bool
+    ensures { λ r. ⌜ r ≡ Conditions.unread d ⌝ }
+{
+    0 < d.receiver.unread
+}
+
+// Transmit is enabled and THR empty.
+fn may_write(d: Device) -> bool
+    ensures { λ r. ⌜ r ≡ mayWrite d ⌝ }
+{
+    transmitting(d) & (d.sender.full == 0)
+}
+
+fn marked(d: Device) -> bool
+    ensures { λ r. ⌜ r ≡ Conditions.marked d ⌝ }
+{
+    (0 < d.flags.empty) | (0 < d.flags.change)
+}
+
+// == status and outputs ==
+
+fn weigh(b: bool, w: u8) -> u8
+    ensures { λ r. ⌜ (r ≡ Status.weigh b w) × (r ≤ w) ⌝ }
+{
+    if b { w } else { 0 }
+}
+
+fn data_set_ready(d: Device) -> bool
+    ensures { λ r. ⌜ r ≡ dataSetReady d ⌝ }
+{
+    d.pins.dsr == 0
+}
+
+fn modem_bits(d: Device) -> u8
+    ensures { λ r. ⌜ (r ≡ modemBits d) × (r ≤ 192) ⌝ }
+{
+    weigh(data_set_ready(d), 128) + weigh(carrier(d), 64)
+}
+
+fn error_bits(f: Flags) -> u8
+    ensures { λ r. ⌜ (r ≡ errorBits f) × (r ≤ 56) ⌝ }
+{
+    weigh(0 < f.framing, 32) + weigh(0 < f.overrun, 16) + weigh(0 < f.parity, 8)
+}
+
+fn ready_bits(d: Device) -> u8
+    ensures { λ r. ⌜ (r ≡ readyBits d) × (r ≤ 7) ⌝ }
+{
+    weigh(marked(d), 4) + weigh(unread(d), 2) + weigh(may_write(d), 1)
+}
+
+fn status_byte(d: Device) -> u8
+    ensures { λ r. ⌜ r ≡ statusByte d ⌝ }
+{
+    let f = d.flags;
+    modem_bits(d) + error_bits(f) + ready_bits(d)
+}
+
+fn outputs_of(d: Device) -> OutputPins
+    ensures { λ r. ⌜ r ≡ outputsOf d ⌝ }
+{
+    let dtr = has(2, d.registers.command);
+    let rts = has(32, d.registers.command);
+    OutputPins {
+        txrdy: number(!may_write(d)),
+        rxrdy: number(!unread(d)),
+        txemt: number(!marked(d)),
+        dtr: number(!dtr),
+        rts: number(!rts),
+    }
+}
+
+// The levels of the outputs.
+pub fn outputs(d: Device) -> OutputPins
+    ensures { λ r. ⌜ r ≡ Status.outputs d ⌝ }
+{
+    outputs_of(settle(d))
+}
+
+// == ranges and reset ==
+
+fn is_mode1(m: u8) -> bool
+    ensures { λ r. ⌜ r ≡ isMode1 m ⌝ }
+{
+    (m % 4 != 0) & (m / 64 != 0)
+}
+
+fn mode1_in_range(accepted: u8, m: u8) -> bool
+    ensures { λ r. ⌜ r ≡ mode1InRange accepted m ⌝ }
+{
+    if 0 < accepted {
+        return (accepted == 1) & is_mode1(m);
+    }
+    m == 0
+}
+
+fn command_in_range(v: u8) -> bool
+    ensures { λ r. ⌜ r ≡ commandInRange v ⌝ }
+{
+    (v < 64) & !has(16, v)
+}
+
+fn registers_in_range(r: Registers) -> bool
+    ensures { λ b. ⌜ b ≡ registersInRange r ⌝ }
+{
+    mode1_in_range(r.accepted, r.mode1)
+        & command_in_range(r.command)
+        & (r.modes <= 1)
+        & (r.syns <= 2)
+}
+
+fn pins_in_range(p: Pins) -> bool
+    ensures { λ b. ⌜ b ≡ pinsInRange p ⌝ }
+{
+    (p.dsr <= 1) & (p.dcd <= 1) & (p.cts <= 1)
+}
+
+fn flags_in_range(f: Flags) -> bool
+    ensures { λ b. ⌜ b ≡ flagsInRange f ⌝ }
+{
+    (f.framing <= 1) & (f.overrun <= 1) & (f.parity <= 1) & (f.empty <= 1) & (f.change <= 1)
+}
+
+// Whether a device is one of document 01.
+pub fn in_range(d: Device) -> bool
+    ensures { λ b. ⌜ b ≡ inRange d ⌝ }
+{
+    let registers = d.registers;
+    let pins = d.pins;
+    let sender = d.sender;
+    let receiver = d.receiver;
+    let flags = d.flags;
+    registers_in_range(registers)
+        & pins_in_range(pins)
+        & link::sender_in_range(sender)
+        & link::receiver_in_range(receiver)
+        & flags_in_range(flags)
+}
+
+fn clear_registers() -> Registers
+    ensures { λ r. ⌜ r ≡ resetDevice .registers ⌝ }
+{
+    Registers {
+        mode1: 0,
+        mode2: 0,
+        accepted: 0,
+        command: 0,
+        syn1: 0,
+        syn2: 0,
+        dle: 0,
+        modes: 0,
+        syns: 0,
+    }
+}
+
+// A device just reset: nothing set, nothing under way, the three inputs high.
+pub fn reset() -> Device
+    ensures { λ r. ⌜ r ≡ resetDevice ⌝ }
+{
+    Device {
+        registers: clear_registers(),
+        pins: Pins {
+            dsr: 1,
+            dcd: 1,
+            cts: 1,
+        },
+        sender: link::idle_sender(),
+        receiver: link::idle_receiver(),
+        flags: Flags {
+            framing: 0,
+            overrun: 0,
+            parity: 0,
+            empty: 0,
+            change: 0,
+        },
+    }
+}
+
+// The device itself, or one just reset where it is out of range.
+pub fn settle(d: Device) -> Device
+    ensures { λ r. ⌜ r ≡ settled d ⌝ }
+{
+    if in_range(d) {
+        return d;
+    }
+    reset()
+}
+
+// == reads ==
+
+fn read_refusal(address: u8) -> u8
+    ensures { λ r. ⌜ r ≡ readRefusal address ⌝ }
+{
+    if 3 < address { 1 } else { 0 }
+}
+
+fn read_holding(mut d: Device) -> Answer
+    ensures { λ r. ⌜ r ≡ readHolding d ⌝ }
+{
+    let r = d.receiver;
+    let emptied = link::empty(r);
+    d.receiver = emptied;
+    Answer {
+        refusal: 0,
+        value: r.holding,
+        device: d,
+    }
+}
+
+fn read_status(mut d: Device) -> Answer
+    ensures { λ r. ⌜ r ≡ readStatus d ⌝ }
+{
+    let value = status_byte(d);
+    d.flags.change = 0;
+    Answer {
+        refusal: 0,
+        value: value,
+        device: d,
+    }
+}
+
+fn read_mode(mut d: Device) -> Answer
+    ensures { λ r. ⌜ r ≡ readMode d ⌝ }
+{
+    if d.registers.modes == 0 {
+        d.registers.modes = 1;
+        return Answer {
+            refusal: 0,
+            value: d.registers.mode1,
+            device: d,
+        };
+    }
+    d.registers.modes = 0;
+    Answer {
+        refusal: 0,
+        value: d.registers.mode2,
+        device: d,
+    }
+}
+
+// A command read puts both pointers back.
+fn read_command(mut d: Device) -> Answer
+    ensures { λ r. ⌜ r ≡ readCommand d ⌝ }
+{
+    d.registers.modes = 0;
+    d.registers.syns = 0;
+    Answer {
+        refusal: 0,
+        value: d.registers.command,
+        device: d,
+    }
+}
+
+fn read_register(d: Device, address: u8) -> Answer
+    ensures { λ r. ⌜ r ≡ readRegister d address ⌝ }
+{
+    if address == 0 {
+        return read_holding(d);
+    }
+    if address == 1 {
+        return read_status(d);
+    }
+    if address == 2 {
+        return read_mode(d);
+    }
+    read_command(d)
+}
+
+// A register read.
+pub fn read(d: Device, address: u8) -> Answer
+    ensures { λ r. ⌜ r ≡ RegisterReads.read d address ⌝ }
+{
+    let n = read_refusal(address);
+    if n == 0 {
+        return read_register(settle(d), address);
+    }
+    Answer {
+        refusal: n,
+        value: 0,
+        device: d,
+    }
+}
+
+// == writes ==
+
+fn mode1_refusal(v: u8) -> u8
+    ensures { λ r. ⌜ r ≡ mode1Refusal v ⌝ }
+{
+    if v % 4 == 0 {
+        return 4;
+    }
+    if v / 64 == 0 {
+        return 3;
+    }
+    0
+}
+
+fn mode_refusal(r: Registers, v: u8) -> u8
+    ensures { λ n. ⌜ n ≡ modeRefusal r v ⌝ }
+{
+    if r.modes == 0 {
+        return mode1_refusal(v);
+    }
+    0
+}
+
+fn command_refusal(v: u8) -> u8
+    ensures { λ r. ⌜ r ≡ commandRefusal v ⌝ }
+{
+    if v < 64 { 0 } else { 5 }
+}
+
+fn write_refusal(r: Registers, address: u8, v: u8) -> u8
+    ensures { λ n. ⌜ n ≡ writeRefusal r address v ⌝ }
+{
+    if 3 < address {
+        return 1;
+    }
+    if address == 2 {
+        return mode_refusal(r, v);
+    }
+    if address == 3 {
+        return command_refusal(v);
+    }
+    0
+}
+
+fn write_holding(mut d: Device, v: u8) -> Device
+    ensures { λ r. ⌜ r ≡ writeHolding d v ⌝ }
+{
+    let s = d.sender;
+    let loaded = link::load(s, v);
+    d.sender = loaded;
+    d.flags.empty = 0;
+    d
+}
+
+fn syns_written(mut r: Registers, v: u8) -> Registers
+    ensures { λ n. ⌜ n ≡ synsWritten r v ⌝ }
+{
+    if r.syns == 0 {
+        r.syn1 = v;
+        r.syns = 1;
+        return r;
+    }
+    if r.syns == 1 {
+        r.syn2 = v;
+        r.syns = 2;
+        return r;
+    }
+    r.dle = v;
+    r.syns = 0;
+    r
+}
+
+fn modes_written(mut r: Registers, v: u8) -> Registers
+    ensures { λ n. ⌜ n ≡ modesWritten r v ⌝ }
+{
+    if r.modes == 0 {
+        r.mode1 = v;
+        r.accepted = 1;
+        r.modes = 1;
+        return r;
+    }
+    r.mode2 = v;
+    r.modes = 0;
+    r
+}
+
+// A command with its bit 4 at 0.
+fn stored(v: u8) -> u8
+    ensures { λ r. ⌜ r ≡ RegisterWrites.stored v ⌝ }
+{
+    v - v / 16 % 2 * 16
+}
+
+fn command_clears(v: u8) -> bool
+    ensures { λ r. ⌜ r ≡ Modes.commandClears v ⌝ }
+{
+    has(16, v)
+}
+
+fn flags_commanded(f: Flags, v: u8) -> Flags
+    ensures { λ r. ⌜ r ≡ flagsCommanded f v ⌝ }
+{
+    let clears = command_clears(v);
+    let on = has(1, v);
+    Flags {
+        framing: unless(clears, f.framing),
+        overrun: unless(clears, f.overrun),
+        parity: unless(clears, f.parity),
+        empty: unless(!on, f.empty),
+        change: f.change,
+    }
+}
+
+fn receiver_commanded(r: ReceiverHalf, v: u8) -> ReceiverHalf
+    ensures { λ t. ⌜ t ≡ receiverCommanded r v ⌝ }
+{
+    if has(4, v) {
+        return r;
+    }
+    link::empty(link::drop_character(r))
+}
+
+fn write_command(mut d: Device, v: u8) -> Device
+    ensures { λ r. ⌜ r ≡ writeCommand d v ⌝ }
+{
+    let r = d.receiver;
+    let f = d.flags;
+    let receiver = receiver_commanded(r, v);
+    let flags = flags_commanded(f, v);
+    let kept = stored(v);
+    d.registers.command = kept;
+    d.receiver = receiver;
+    d.flags = flags;
+    d
+}
+
+fn write_syn(mut d: Device, v: u8) -> Device
+    ensures { λ r. ⌜ r ≡ Rattle.ins2651.specs.Shape.withRegisters d (synsWritten (d .registers) v) ⌝ }
+{
+    let r = d.registers;
+    let written = syns_written(r, v);
+    d.registers = written;
+    d
+}
+
+fn write_mode(mut d: Device, v: u8) -> Device
+    ensures { λ r. ⌜ r ≡ Rattle.ins2651.specs.Shape.withRegisters d (modesWritten (d .registers) v) ⌝ }
+{
+    let r = d.registers;
+    let written = modes_written(r, v);
+    d.registers = written;
+    d
+}
+
+fn write_register(d: Device, address: u8, v: u8) -> Device
+    ensures { λ r. ⌜ r ≡ writeRegister d address v ⌝ }
+{
+    if address == 0 {
+        return write_holding(d, v);
+    }
+    if address == 1 {
+        return write_syn(d, v);
+    }
+    if address == 2 {
+        return write_mode(d, v);
+    }
+    write_command(d, v)
+}
+
+// A register write.
+pub fn write(d: Device, address: u8, v: u8) -> Outcome
+    ensures { λ r. ⌜ r ≡ RegisterWrites.write d address v ⌝ }
+{
+    let s = settle(d);
+    let registers = s.registers;
+    let n = write_refusal(registers, address, v);
+    if n == 0 {
+        return Outcome {
+            refusal: 0,
+            device: write_register(s, address, v),
+        };
+    }
+    Outcome {
+        refusal: n,
+        device: d,
+    }
+}
+
+// == pins ==
+
+fn pins_refusal(dsr: u8, dcd: u8, cts: u8) -> u8
+    ensures { λ r. ⌜ r ≡ pinsRefusal dsr dcd cts ⌝ }
+{
+    let levels = (dsr <= 1) & (dcd <= 1) & (cts <= 1);
+    if levels { 0 } else { 2 }
+}
+
+fn changes(p: Pins, dsr: u8, dcd: u8) -> bool
+    ensures { λ r. ⌜ r ≡ Pinning.changes p dsr dcd ⌝ }
+{
+    (p.dsr != dsr) | (p.dcd != dcd)
+}
+
+fn pinned(mut d: Device, dsr: u8, dcd: u8, cts: u8) -> Device
+    ensures { λ r. ⌜ r ≡ Pinning.pinned d dsr dcd cts ⌝ }
+{
+    let before = d.pins;
+    let change = or_set(changes(before, dsr, dcd), d.flags.change);
+    let pins = Pins {
+        dsr: dsr,
+        dcd: dcd,
+        cts: cts,
+    };
+    d.pins = pins;
+    d.flags.change = change;
+    d
+}
+
+// The three modem inputs take new levels.
+pub fn set_pins(d: Device, dsr: u8, dcd: u8, cts: u8) -> Outcome
+    ensures { λ r. ⌜ r ≡ setPins d dsr dcd cts ⌝ }
+{
+    let n = pins_refusal(dsr, dcd, cts);
+    if n == 0 {
+        return Outcome {
+            refusal: 0,
+            device: pinned(settle(d), dsr, dcd, cts),
+        };
+    }
+    Outcome {
+        refusal: n,
+        device: d,
+    }
+}
+
+// == ticks ==
+
+// A transmit tick of a device in range; a run of ticks settles its device once.
+pub fn transmit_tick(mut d: Device) -> Ticked
+    ensures { λ r. ⌜ r ≡ transmitTick d ⌝ }
+{
+    let s = d.sender;
+    let registers = d.registers;
+    let sent = link::transmit(s, sending(d), breaking(d), send_format(registers));
+    let empty = or_set(sent.drained & transmitting(d), d.flags.empty);
+    let level = number(sent.level);
+    let half = sent.half;
+    d.sender = half;
+    d.flags.empty = empty;
+    Ticked {
+        level: level,
+        device: d,
+    }
+}
+
+// A transmit tick: the level sent.
+pub fn transmit(d: Device) -> Ticked
+    ensures { λ r. ⌜ r ≡ Ticks.transmit d ⌝ }
+{
+    transmit_tick(settle(d))
+}
+
+// What arrives sets flags, and clears none.
+fn noted(f: Flags, overrun: bool, heard: Heard) -> Flags
+    ensures { λ r. ⌜ r ≡ Ticks.noted f overrun heard ⌝ }
+{
+    match heard {
+        Heard::Nothing => f,
+        Heard::Character(a) => Flags {
+            framing: or_set(a.framing, f.framing),
+            overrun: or_set(overrun, f.overrun),
+            parity: or_set(a.parity, f.parity),
+            empty: f.empty,
+            change: f.change,
+        },
+    }
+}
+
+// A receive tick of a device in range.
+pub fn receive_tick(mut d: Device, x: bool) -> Device
+    ensures { λ r. ⌜ r ≡ receiveTick d x ⌝ }
+{
+    let r = d.receiver;
+    let f = d.flags;
+    let registers = d.registers;
+    let received = link::receive(r, receiving(d), receive_format(registers), x);
+    let heard = received.heard;
+    let flags = noted(f, received.overrun, heard);
+    let half = received.half;
+    d.receiver = half;
+    d.flags = flags;
+    d
+}
+
+fn level_refusal(x: u8) -> u8
+    ensures { λ r. ⌜ r ≡ levelRefusal x ⌝ }
+{
+    if x <= 1 { 0 } else { 2 }
+}
+
+// A receive tick: the level on the line.
+pub fn receive(d: Device, x: u8) -> Outcome
+    ensures { λ r. ⌜ r ≡ Ticks.receive d x ⌝ }
+{
+    let n = level_refusal(x);
+    if n == 0 {
+        return Outcome {
+            refusal: 0,
+            device: receive_tick(settle(d), 0 < x),
+        };
+    }
+    Outcome {
+        refusal: n,
+        device: d,
+    }
+}
