@@ -1,1 +1,7 @@
 pub mod Branches
+pub mod Settled
+pub mod Done
+pub mod Formats
+pub mod Refused
+pub mod InRange
+pub mod Outside

@@ -1,10 +1,13 @@
 pub mod Shape
 pub mod Modes
 pub mod Conditions
-pub mod Status
 pub mod Ranges
+pub mod Status
 pub mod Refusals
 pub mod RegisterReads
 pub mod RegisterWrites
 pub mod Pinning
 pub mod Ticks
+pub mod Runs
+pub mod Rows
+pub mod History

@@ -1,0 +1,112 @@
+-- What a tick of a half does, for those who run many of them: a frame goes on whatever the tick is told, and a receiver that is on takes the
+-- line's own steps in one format.
+-- Assumes nothing.
+use Prim.Native.Nat.{ℕ, suc, _+_, _*_, _%_, _≤_, _<_}
+use native.Mathlib.Nat.{mul-le-mul, mod-eq-of-lt}
+use native.Mathlib.Omega.{arith}
+use mathlib.Core.Path.{_≡_, refl, ap, sym, _∙_}
+use mathlib.Core.Bool.{Bool, true, false, cond, _&&_}
+use lib.Dec.{ltb}
+use borrow.Author.Tests.{lt-ltb, le-ltb}
+use Rattle.line.specs.declared.Format.{Format}
+use Rattle.line.specs.declared.Arrival.{Arrival}
+use Rattle.line.specs.declared.Heard.{Heard}
+use Rattle.line.specs.declared.Heard.the-variants.{Nothing, Character}
+use Rattle.line.specs.declared.Sampled.{Sampled}
+use Rattle.line.specs.Sending.{bit, on, parityBits, frameLength}
+use Rattle.line.specs.Range.{Bounds}
+use Rattle.line.specs.Receiving.{sample}
+use Rattle.link.specs.declared.Frame.{Frame}
+use Rattle.link.specs.declared.SenderHalf.{SenderHalf}
+use Rattle.link.specs.declared.ReceiverHalf.{ReceiverHalf}
+use Rattle.link.specs.declared.Received.{Received}
+use Rattle.link.specs.declared.Sent.{Sent}
+use Rattle.link.specs.Parts.{noFrame, noFormat}
+use Rattle.link.specs.Transmitting.{nextPlace, frameAt, frameNext, frameTick, beginTick, breakTick, markTick, transmit}
+use Rattle.link.specs.Hearing.{underWay, formatFor, stepped, take, taken, hear, receive}
+
+-- == the sender ==
+
+module _ (s : SenderHalf) (ready broken : Bool) (f : Format) where
+  -- a frame begun is finished: nothing that the tick is told matters
+  pub transmit-under : on (s .frame .place) ≡ true → transmit s ready broken f ≡ frameTick s (s .frame) false
+  unfolding transmit
+  transmit-under t = rw t
+
+  pub transmit-begins : on (s .frame .place) ≡ false → ready ≡ true → broken ≡ false → on (s .guard) ≡ false → on (s .full) ≡ true
+      → transmit s ready broken f ≡ beginTick s f
+  unfolding transmit
+  transmit-begins t r b g w = rw (t, r, b, g, w)
+
+one-at-most : (x : Bool) → bit x ≤ 1
+one-at-most true = omega arith
+one-at-most false = omega arith
+
+-- L is at most 768
+pub length-bound : (f : Format) → Bounds f → frameLength f ≤ 768
+length-bound f b =
+    let l : suc (f .length + parityBits f) ≤ 10 = omega (arith, b .short, one-at-most (on (f .parity))) in
+    let m : f .factor * suc (f .length + parityBits f) ≤ 64 * 10 = mul-le-mul (b .few) l in
+    omega (arith, m, b .ends, b .few)
+
+module _ (f : Format) (i : ℕ) (fits : frameLength f ≤ 768) where
+  counted : i < frameLength f → (i + 1) % 65536 ≡ suc i
+  counted h = let e : (i + 1) % 65536 ≡ i + 1 = mod-eq-of-lt (omega arith) in e ∙ (let q : i + 1 ≡ suc i = omega arith in q)
+
+  pub next-place : suc i < frameLength f → nextPlace f i ≡ suc i
+  next-place h = rw (counted (omega arith), lt-ltb (suc i) (frameLength f) h)
+
+  pub last-place : suc i ≡ frameLength f → nextPlace f i ≡ 0
+  last-place h = rw (counted (omega arith), le-ltb (suc i) (frameLength f) (omega arith))
+
+abbrev frameOf : Format → ℕ → ℕ → Frame
+frameOf f c i = record { character = c; format = f; place = i }
+
+pub frame-goes-on : (f : Format) (c i : ℕ) → frameLength f ≤ 768 → suc i < frameLength f → frameNext (frameOf f c i) ≡ frameOf f c (suc i)
+frame-goes-on f c i fits h = ap (λ (k : ℕ). cond (on k) (frameOf f c k) noFrame) (next-place f i fits h) ∙ rw (lt-ltb 0 (suc i) (omega arith))
+
+pub frame-ends : (f : Format) (c i : ℕ) → frameLength f ≤ 768 → suc i ≡ frameLength f → frameNext (frameOf f c i) ≡ noFrame
+frame-ends f c i fits h = ap (λ (k : ℕ). cond (on k) (frameOf f c k) noFrame) (last-place f i fits h)
+
+-- == the receiver ==
+
+-- the half reads in the format f: it has no character under way, or one that began in f
+abbrev pub Tuned : Format → ReceiverHalf → Type 0
+Tuned f r = formatFor r f ≡ f
+
+pub tuned-idle : (f : Format) (r : ReceiverHalf) → underWay (r .state) ≡ false → Tuned f r
+tuned-idle f r e = rw e
+
+take-state : (r : ReceiverHalf) (h : Heard) → take r h .half .state ≡ r .state
+take-state r Nothing = refl
+take-state r (Character a) = refl
+
+take-format : (r : ReceiverHalf) (h : Heard) → take r h .half .format ≡ r .format
+take-format r Nothing = refl
+take-format r (Character a) = refl
+
+take-heard : (r : ReceiverHalf) (h : Heard) → take r h .heard ≡ h
+take-heard r Nothing = refl
+take-heard r (Character a) = refl
+
+module _ (f : Format) (r : ReceiverHalf) (x : Bool) (t : Tuned f r) where
+  receive-is : receive r true f x ≡ hear r f x
+  unfolding receive
+  receive-is = ap (λ (g : Format). hear r g x) t
+
+  -- its state and what it hears are the line's own step
+  pub hear-state : receive r true f x .half .state ≡ sample f (r .state) x .next
+  hear-state = ap (λ (o : Received). o .half .state) receive-is ∙ take-state (stepped r f (sample f (r .state) x .next)) (sample f (r .state) x .heard)
+
+  pub hear-heard : receive r true f x .heard ≡ sample f (r .state) x .heard
+  hear-heard = ap (λ (o : Received). o .heard) receive-is ∙ take-heard (stepped r f (sample f (r .state) x .next)) (sample f (r .state) x .heard)
+
+  hear-format : receive r true f x .half .format ≡ cond (underWay (sample f (r .state) x .next)) f noFormat
+  hear-format = ap (λ (o : Received). o .half .format) receive-is ∙ take-format (stepped r f (sample f (r .state) x .next)) (sample f (r .state) x .heard)
+
+  pub hear-tuned : Tuned f (receive r true f x .half)
+  hear-tuned = rw (hear-state, hear-format) (kept (underWay (sample f (r .state) x .next)))
+    where
+      kept : (b : Bool) → cond b (cond b f noFormat) f ≡ f
+      kept true = refl
+      kept false = refl
