@@ -6,7 +6,7 @@ use mathlib.Core.Path.{_≡_, refl, sym, ap, subst, _∙_}
 use mathlib.Core.Bool.{Bool, true, false, cond, not, _&&_}
 use mathlib.Core.List.{List, [], _∷_}
 use lib.Dec.{ltb, leb, eqb}
-use borrow.Author.Tests.{lt-ltb, ltb-true, ltb-false, eqb-true, eqb-false}
+use borrow.Author.Tests.{lt-ltb, eqb-true, eqb-false}
 use Rattle.line.specs.declared.Heard.{Heard}
 use Rattle.line.specs.declared.Heard.the-variants.{Nothing, Character}
 use Rattle.line.specs.Sending.{bit, on}
@@ -36,7 +36,7 @@ use Rattle.ins2651.specs.Rows.{refusal}
 use Rattle.ins2651.proofs.Settled.{settled-is, reset-in}
 use Rattle.ins2651.proofs.Done.{done-read, done-write, done-pins, done-receive}
 use Rattle.ins2651.proofs.Formats.{format-in}
-use Rattle.ins2651.proofs.Refused.{refused-unchanged}
+use Rattle.ins2651.proofs.Refused.{address-is-3, commands-fit, mode-accepted, refused-unchanged}
 
 -- == the parts of a device ==
 
@@ -209,21 +209,6 @@ module _ (d : Device) (p : In d) where
         flags = noted-in (received d x .overrun) (received d x .heard);
       }
 
-  -- the last address is the command's
-  address-is-3 : (address v : ℕ) → writeRefusal (d .registers) address v ≡ 0 → eqb address 0 ≡ false → eqb address 1 ≡ false → eqb address 2 ≡ false → address ≡ 3
-  unfolding writeRefusal
-  address-is-3 address v h a b c =
-      each (λ (n : ℕ). n ≡ 0 → address ≡ 3) (ltb 3 address) (λ t e. absurd (omega arith))
-      (λ t e. omega (arith, ltb-false 3 address t, eqb-false address 0 a, eqb-false address 1 b, eqb-false address 2 c)) h
-
-  commands-fit : (v : ℕ) → writeRefusal (d .registers) 3 v ≡ 0 → v < 64
-  unfolding writeRefusal
-  commands-fit v h = each (λ (n : ℕ). n ≡ 0 → v < 64) (ltb v 64) (λ t e. ltb-true v 64 t) (λ t e. absurd (omega arith)) h
-
-  mode-accepted : (v : ℕ) → writeRefusal (d .registers) 2 v ≡ 0 → modeRefusal (d .registers) v ≡ 0
-  unfolding writeRefusal
-  mode-accepted v h = h
-
   write-in : (address v : ℕ) → writeRefusal (d .registers) address v ≡ 0 → In (writeRegister d address v)
   unfolding writeRegister
   write-in address v h =
@@ -233,10 +218,10 @@ module _ (d : Device) (p : In d) where
       (λ b. record { registers = syns-in v; pins = p .pins; sender = p .sender; receiver = p .receiver; flags = p .flags }) λ b.
       each In (eqb address 2)
       (λ c. record {
-        registers = modes-in v (mode-accepted v (subst (λ (k : ℕ). writeRefusal (d .registers) k v ≡ 0) (eqb-true address 2 c) h));
+        registers = modes-in v (mode-accepted (d .registers) v (subst (λ (k : ℕ). writeRefusal (d .registers) k v ≡ 0) (eqb-true address 2 c) h));
         pins = p .pins; sender = p .sender; receiver = p .receiver; flags = p .flags;
       })
-      (λ c. commanded-in v (commands-fit v (subst (λ (k : ℕ). writeRefusal (d .registers) k v ≡ 0) (address-is-3 address v h a b c) h)))
+      (λ c. commanded-in v (commands-fit (d .registers) v (subst (λ (k : ℕ). writeRefusal (d .registers) k v ≡ 0) (address-is-3 (d .registers) address v h a b c) h)))
 
 -- == runs ==
 

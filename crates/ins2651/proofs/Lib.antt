@@ -5,3 +5,5 @@ pub mod Formats
 pub mod Refused
 pub mod InRange
 pub mod Outside
+pub mod Leaves
+pub mod FlagsStay

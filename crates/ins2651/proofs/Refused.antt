@@ -1,19 +1,20 @@
 -- Each refusal number is given exactly when its row says, and a refused call changes nothing.
 -- Assumes nothing.
-use Prim.Native.Nat.{ℕ, _/_, _%_, _≤_}
+use Prim.Native.Nat.{ℕ, _/_, _%_, _≤_, _<_}
 use native.Mathlib.Omega.{arith}
 use mathlib.Core.Path.{_≡_, refl, sym, ap, _∙_}
 use mathlib.Core.Bool.{Bool, true, false, cond, not, _&&_}
 use mathlib.Core.List.{List, [], _∷_}
 use lib.Dec.{ltb, leb, eqb}
-use borrow.Author.Tests.{ltb-true, eqb-true, ne-eqb}
+use borrow.Author.Tests.{ltb-true, ltb-false, eqb-true, eqb-false}
 use Rattle.line.specs.Sending.{bit}
 use Rattle.link.proofs.Choice.{either, each}
+use Rattle.ins2651.specs.declared.Registers.{Registers}
 use Rattle.ins2651.specs.declared.Device.{Device}
 use Rattle.ins2651.specs.declared.Answer.{Answer}
 use Rattle.ins2651.specs.declared.Outcome.{Outcome}
 use Rattle.ins2651.specs.Ranges.{settled}
-use Rattle.ins2651.specs.Refusals.{readRefusal, writeRefusal, pinsRefusal, levelRefusal}
+use Rattle.ins2651.specs.Refusals.{readRefusal, modeRefusal, writeRefusal, pinsRefusal, levelRefusal}
 use Rattle.ins2651.specs.RegisterReads.{readRegister, read}
 use Rattle.ins2651.specs.RegisterWrites.{write}
 use Rattle.ins2651.specs.Pinning.{setPins}
@@ -31,10 +32,6 @@ pub record Exactly (n : ℕ) (one two three four five : Bool) : Type 0 where
   pub factor : eqb n 4 ≡ four
   pub command : eqb n 5 ≡ five
   pub most : n ≤ 5
-
-never : (a : Bool) → (a && true) ≡ false → a ≡ false
-never true e = e
-never false e = refl
 
 -- a write: the address above 3, 2 or 3, of which one at most is so
 write-rows : (above two three m z s l : Bool) → (above && two) ≡ false → (above && three) ≡ false → (two && three) ≡ false
@@ -81,6 +78,24 @@ given-exactly d (SetPins dsr dcd cts) = level-rows (leb dsr 1 && leb dcd 1 && le
 given-exactly d Transmit = none
 given-exactly d (Receive x) = level-rows (leb x 1)
 given-exactly d Outputs = none
+
+-- == a write that is not refused ==
+
+module _ (r : Registers) where
+  -- the last address is the command's
+  pub address-is-3 : (address v : ℕ) → writeRefusal r address v ≡ 0 → eqb address 0 ≡ false → eqb address 1 ≡ false → eqb address 2 ≡ false → address ≡ 3
+  unfolding writeRefusal
+  address-is-3 address v h a b c =
+      each (λ (n : ℕ). n ≡ 0 → address ≡ 3) (ltb 3 address) (λ t e. absurd (omega arith))
+      (λ t e. omega (arith, ltb-false 3 address t, eqb-false address 0 a, eqb-false address 1 b, eqb-false address 2 c)) h
+
+  pub commands-fit : (v : ℕ) → writeRefusal r 3 v ≡ 0 → v < 64
+  unfolding writeRefusal
+  commands-fit v h = each (λ (n : ℕ). n ≡ 0 → v < 64) (ltb v 64) (λ t e. ltb-true v 64 t) (λ t e. absurd (omega arith)) h
+
+  pub mode-accepted : (v : ℕ) → writeRefusal r 2 v ≡ 0 → modeRefusal r v ≡ 0
+  unfolding writeRefusal
+  mode-accepted v h = h
 
 -- == what is answered ==
 

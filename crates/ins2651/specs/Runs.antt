@@ -1,6 +1,7 @@
 -- Runs of calls: a call as data, the device after it, and what it answers, in document 01's numbers. Arguments are any numbers, so bytes too.
 -- Assumes nothing.
 use Prim.Native.Nat.{ℕ}
+use mathlib.Core.Bool.{Bool, true, not, _&&_}
 use mathlib.Core.List.{List, [], _∷_}
 use Rattle.ins2651.specs.declared.Device.{Device}
 use Rattle.ins2651.specs.declared.Answer.{Answer}
@@ -59,3 +60,8 @@ after d (c ∷ cs) = after (next d c) cs
 abbrev pub answers : Device → List Call → List Said
 answers d [] = []
 answers d (c ∷ cs) = said d c ∷ answers (next d c) cs
+
+-- no call of the list is so
+abbrev pub nowhere : (Call → Bool) → List Call → Bool
+nowhere p [] = true
+nowhere p (c ∷ cs) = not (p c) && nowhere p cs
