@@ -7,3 +7,4 @@ pub mod InRange
 pub mod Outside
 pub mod Leaves
 pub mod FlagsStay
+pub mod FrameWhole

@@ -11,3 +11,4 @@ pub mod Ticks
 pub mod Runs
 pub mod Rows
 pub mod History
+pub mod Line

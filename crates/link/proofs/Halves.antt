@@ -59,7 +59,7 @@ module _ (f : Format) (i : ℕ) (fits : frameLength f ≤ 768) where
   pub last-place : suc i ≡ frameLength f → nextPlace f i ≡ 0
   last-place h = rw (counted (omega arith), le-ltb (suc i) (frameLength f) (omega arith))
 
-abbrev frameOf : Format → ℕ → ℕ → Frame
+abbrev pub frameOf : Format → ℕ → ℕ → Frame
 frameOf f c i = record { character = c; format = f; place = i }
 
 pub frame-goes-on : (f : Format) (c i : ℕ) → frameLength f ≤ 768 → suc i < frameLength f → frameNext (frameOf f c i) ≡ frameOf f c (suc i)
