@@ -7,7 +7,7 @@ use mathlib.Core.Path.{_≡_, refl, sym, ap, ap₂, _∙_}
 use mathlib.Core.Bool.{Bool, true, false, cond, not, _&&_}
 use mathlib.Core.List.{List, [], _∷_, map}
 use lib.Dec.{ltb, eqb}
-use borrow.Author.Tests.{lt-ltb, ltb-true, ltb-false, eqb-true, eqb-false}
+use borrow.Author.Tests.{lt-ltb, le-ltb, ltb-true, ltb-false, eqb-true, eqb-false}
 use Rattle.line.specs.declared.Format.{Format}
 use Rattle.line.specs.Sending.{bit, on, frameLength, level, listed, frame}
 use Rattle.line.specs.Range.{Bounds}
@@ -228,3 +228,10 @@ module _ (d : Device) (v : ℕ) (h : range.inRange d ≡ true) (may : sending d 
       ap₂ (λ (x : ℕ) (xs : List ℕ). x ∷ xs) first-level (w .sends)
       ∙ ap (λ (n : ℕ). map bit (listed (level f v) 0 n)) l
       ∙ ap (map bit) (sym (frame-levels f v (fits .ticks)))
+
+  -- and with its last tick no frame is under way
+  pub frame-over : (cs : List Call) → nowhere resets cs ≡ true → suc (transmits cs) ≡ frameLength f
+      → after written (Transmit ∷ cs) .sender .frame ≡ noFrame
+  frame-over cs r l =
+      let w = frame-whole f v (length-bound f fits) 1 (next written Transmit) cs (omega arith) (next-in written Transmit (next-in d (Write 0 v) h)) first-frame r (omega (arith, l)) in
+      w .leaves ∙ ap (λ (b : Bool). cond b (frameOf f v (1 + transmits cs)) noFrame) (le-ltb (1 + transmits cs) (frameLength f) (omega (arith, l)))

@@ -8,3 +8,4 @@ pub mod Outside
 pub mod Leaves
 pub mod FlagsStay
 pub mod FrameWhole
+pub mod Arrives

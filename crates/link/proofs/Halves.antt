@@ -90,7 +90,7 @@ take-heard r Nothing = refl
 take-heard r (Character a) = refl
 
 module _ (f : Format) (r : ReceiverHalf) (x : Bool) (t : Tuned f r) where
-  receive-is : receive r true f x ≡ hear r f x
+  pub receive-is : receive r true f x ≡ hear r f x
   unfolding receive
   receive-is = ap (λ (g : Format). hear r g x) t
 
