@@ -9,3 +9,4 @@ pub mod Leaves
 pub mod FlagsStay
 pub mod FrameWhole
 pub mod Arrives
+pub mod ByHistory

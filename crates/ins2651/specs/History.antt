@@ -6,10 +6,11 @@ use mathlib.Core.List.{List, [], _∷_}
 use lib.Dec.{ltb, eqb}
 use Rattle.line.specs.declared.Arrival.{Arrival}
 use Rattle.line.specs.declared.Heard.{Heard}
-use Rattle.line.specs.declared.Heard.the-variants.{Nothing, Character}
+use Rattle.line.specs.declared.Heard.the-variants.{Nothing}
 use Rattle.line.specs.Sending.{on, differ}
 use Rattle.link.specs.declared.Sent.{Sent}
 use Rattle.link.specs.declared.Received.{Received}
+use Rattle.link.specs.Hearing.{arrives}
 use Rattle.ins2651.specs.declared.Device.{Device}
 use Rattle.ins2651.specs.Modes.{transmitEnable, receiveEnable, commandClears}
 use Rattle.ins2651.specs.Status.{weigh}
@@ -93,11 +94,7 @@ abbrev pub since : (Happened → List Happened → Bool) → (Happened → Bool)
 since sets clears [] = false
 since sets clears (e ∷ es) = cond (sets e es) true (cond (clears e) false (since sets clears es))
 
--- an arrival that is so
-abbrev pub arrives : (Arrival → Bool) → Heard → Bool
-arrives p Nothing = false
-arrives p (Character a) = p a
-
+-- a character arrived
 abbrev pub anyArrival : Happened → Bool
 anyArrival e = arrives (λ (a : Arrival). true) (e .heard)
 

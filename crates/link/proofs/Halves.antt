@@ -21,9 +21,10 @@ use Rattle.link.specs.declared.SenderHalf.{SenderHalf}
 use Rattle.link.specs.declared.ReceiverHalf.{ReceiverHalf}
 use Rattle.link.specs.declared.Received.{Received}
 use Rattle.link.specs.declared.Sent.{Sent}
-use Rattle.link.specs.Parts.{noFrame, noFormat}
+use Rattle.link.specs.Parts.{noFrame, noFormat, dropped}
 use Rattle.link.specs.Transmitting.{nextPlace, frameAt, frameNext, frameTick, beginTick, breakTick, markTick, transmit}
-use Rattle.link.specs.Hearing.{underWay, formatFor, stepped, take, taken, hear, receive}
+use Rattle.link.proofs.Choice.{either}
+use Rattle.link.specs.Hearing.{underWay, formatFor, stepped, arrives, take, hear, receive}
 
 -- == the sender ==
 
@@ -37,6 +38,16 @@ module _ (s : SenderHalf) (ready broken : Bool) (f : Format) where
       → transmit s ready broken f ≡ beginTick s f
   unfolding transmit
   transmit-begins t r b g w = rw (t, r, b, g, w)
+
+  -- the holding register is empty after a frame's first tick, and as it was after any other
+  pub full-after : transmit s ready broken f .half .full ≡ cond (transmit s ready broken f .began) 0 (s .full)
+  unfolding transmit
+  full-after =
+      let P : Sent → Type 0 = λ o. o .half .full ≡ cond (o .began) 0 (s .full) in
+      either P (on (s .frame .place)) {x = frameTick s (s .frame) false} refl
+      (either P (ready && broken) {x = breakTick s f} refl
+      (either P (on (s .guard)) {x = markTick s} refl
+      (either P (ready && on (s .full)) {x = beginTick s f} {y = markTick s} refl refl)))
 
 one-at-most : (x : Bool) → bit x ≤ 1
 one-at-most true = omega arith
@@ -69,6 +80,40 @@ pub frame-ends : (f : Format) (c i : ℕ) → frameLength f ≤ 768 → suc i �
 frame-ends f c i fits h = ap (λ (k : ℕ). cond (on k) (frameOf f c k) noFrame) (last-place f i fits h)
 
 -- == the receiver ==
+
+abbrev any : Heard → Bool
+any h = arrives (λ (a : Arrival). true) h
+
+take-unread : (r : ReceiverHalf) (h : Heard) → on (take r h .half .unread) ≡ cond (any (take r h .heard)) true (on (r .unread))
+take-unread r Nothing = refl
+take-unread r (Character a) = refl
+
+take-overrun : (r : ReceiverHalf) (h : Heard) → take r h .overrun ≡ (any (take r h .heard) && on (r .unread))
+take-overrun r Nothing = refl
+take-overrun r (Character a) = refl
+
+module _ (r : ReceiverHalf) (live : Bool) (f : Format) (x : Bool) where
+  abbrev tick : Received
+  tick = receive r live f x
+
+  abbrev sampled : Sampled
+  sampled = sample (formatFor r f) (r .state) x
+
+  -- an arrival fills the register ..
+  pub unread-after : on (tick .half .unread) ≡ cond (any (tick .heard)) true (on (r .unread))
+  unfolding receive
+  unread-after =
+      either (λ (o : Received). on (o .half .unread) ≡ cond (any (o .heard)) true (on (r .unread))) live
+      {x = hear r (formatFor r f) x} {y = record { half = dropped r; heard = Nothing; overrun = false }}
+      (take-unread (stepped r (formatFor r f) (sampled .next)) (sampled .heard)) refl
+
+  -- .. and tells whether it found it unread
+  pub overrun-told : tick .overrun ≡ (any (tick .heard) && on (r .unread))
+  unfolding receive
+  overrun-told =
+      either (λ (o : Received). o .overrun ≡ (any (o .heard) && on (r .unread))) live
+      {x = hear r (formatFor r f) x} {y = record { half = dropped r; heard = Nothing; overrun = false }}
+      (take-overrun (stepped r (formatFor r f) (sampled .next)) (sampled .heard)) refl
 
 -- the half reads in the format f: it has no character under way, or one that began in f
 abbrev pub Tuned : Format → ReceiverHalf → Type 0

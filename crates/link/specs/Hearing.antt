@@ -5,6 +5,7 @@ use mathlib.Core.Bool.{Bool, false, cond}
 use lib.Dec.{ltb}
 use Rattle.line.specs.declared.Format.{Format}
 use Rattle.line.specs.declared.Receiver.{Receiver}
+use Rattle.line.specs.declared.Arrival.{Arrival}
 use Rattle.line.specs.declared.Heard.{Heard}
 use Rattle.line.specs.declared.Heard.the-variants.{Nothing, Character}
 use Rattle.line.specs.declared.Sampled.{Sampled}
@@ -29,6 +30,11 @@ stepped r g s = record { state = s; format = cond (underWay s) g noFormat; holdi
 -- a character enters the holding register, full or not
 abbrev pub holds : ReceiverHalf → ℕ → ReceiverHalf
 holds r v = record { state = r .state; format = r .format; holding = v; unread = 1 }
+
+-- an arrival that is so
+abbrev pub arrives : (Arrival → Bool) → Heard → Bool
+arrives p Nothing = false
+arrives p (Character a) = p a
 
 -- what the sample brought, and whether it found the register unread
 abbrev pub take : ReceiverHalf → Heard → Received
