@@ -162,8 +162,8 @@ module _ (f : Format) where
       }) in
       record {
         brings =
-          none ∙ w .brings
-          ∙ ap₂ (λ (r : Receiver) (ls : List Bool). arrivals f r k ls) (same .state) (sym (at-none c (λ (x : Bool). x ∷ samples cs) (samples cs) s));
+            none ∙ w .brings
+            ∙ ap₂ (λ (r : Receiver) (ls : List Bool). arrivals f r k ls) (same .state) (sym (at-none c (λ (x : Bool). x ∷ samples cs) (samples cs) s));
         holds = w .holds ∙ ap₂ lastValue (same .holding) (sym none);
       }
 
@@ -184,15 +184,15 @@ module _ (f : Format) where
       ∙ ap (λ (q : Device). tell (suc k) (received q (on x) .heard) (arrivedIn (next d (Receive x)) (suc k) cs)) (settled-is d (a .within)) in
       record {
         brings =
-          some
-          ∙ ap₂ (tell (suc k)) (heard-is f d (on x) (a .within) l (a .tuned))
-          (w .brings ∙ ap (λ (r : Receiver). arrivals f r (suc k) (samples cs)) (ap (λ (q : Device). q .receiver .state) e ∙ state-is f d (on x) (a .within) l (a .tuned)))
-          ∙ ap (arrivals f (d .receiver .state) k) (sym (ap (λ (b : Bool). cond b (on x ∷ samples cs) (samples cs)) s));
+            some
+            ∙ ap₂ (tell (suc k)) (heard-is f d (on x) (a .within) l (a .tuned))
+            (w .brings ∙ ap (λ (r : Receiver). arrivals f r (suc k) (samples cs)) (ap (λ (q : Device). q .receiver .state) e ∙ state-is f d (on x) (a .within) l (a .tuned)))
+            ∙ ap (arrivals f (d .receiver .state) k) (sym (ap (λ (b : Bool). cond b (on x ∷ samples cs) (samples cs)) s));
         holds =
-          w .holds
-          ∙ ap (λ (q : Device). lastValue (q .receiver .holding) (arrivedIn (next d (Receive x)) (suc k) cs)) e
-          ∙ sym (held f d (on x) (a .within) l (a .tuned) (suc k) (arrivedIn (next d (Receive x)) (suc k) cs))
-          ∙ ap (lastValue (d .receiver .holding)) (sym some);
+            w .holds
+            ∙ ap (λ (q : Device). lastValue (q .receiver .holding) (arrivedIn (next d (Receive x)) (suc k) cs)) e
+            ∙ sym (held f d (on x) (a .within) l (a .tuned) (suc k) (arrivedIn (next d (Receive x)) (suc k) cs))
+            ∙ ap (lastValue (d .receiver .holding)) (sym some);
       }
 
   run : (k : ℕ) (d : Device) (cs : List Call) → Ready d cs → Hears f k d cs

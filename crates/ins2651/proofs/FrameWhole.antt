@@ -216,7 +216,6 @@ module _ (d : Device) (v : ℕ) (h : range.inRange d ≡ true) (may : sending d 
   first-frame : next written Transmit .sender .frame ≡ frameBefore f v 1
   unfolding transmit transmitTick
   first-frame = ap (λ (o : Sent). o .half .frame) sent-is ∙ frame-next f v (length-bound f fits) 0 long
-
     where
       long : 0 < frameLength f
       long = omega (arith, fits .stops)

@@ -219,7 +219,10 @@ module _ (d : Device) (p : In d) where
       each In (eqb address 2)
       (λ c. record {
         registers = modes-in v (mode-accepted (d .registers) v (subst (λ (k : ℕ). writeRefusal (d .registers) k v ≡ 0) (eqb-true address 2 c) h));
-        pins = p .pins; sender = p .sender; receiver = p .receiver; flags = p .flags;
+        pins = p .pins;
+        sender = p .sender;
+        receiver = p .receiver;
+        flags = p .flags;
       })
       (λ c. commanded-in v (commands-fit (d .registers) v (subst (λ (k : ℕ). writeRefusal (d .registers) k v ≡ 0) (address-is-3 (d .registers) address v h a b c) h)))
 

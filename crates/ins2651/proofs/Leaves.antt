@@ -111,8 +111,18 @@ moved : (d : Device) (m s u c : ℕ)
     })
 moved d m s u c =
     record {
-      mode1 = refl; mode2 = refl; accepted = refl; command = refl; syn1 = refl; syn2 = refl; dle = refl;
-      pins = refl; sender = refl; state = refl; format = refl; holding = refl;
+      mode1 = refl;
+      mode2 = refl;
+      accepted = refl;
+      command = refl;
+      syn1 = refl;
+      syn2 = refl;
+      dle = refl;
+      pins = refl;
+      sender = refl;
+      state = refl;
+      format = refl;
+      holding = refl;
       errors = record { framing = refl; overrun = refl; parity = refl };
       empty = refl;
     }

@@ -10,3 +10,4 @@ pub mod FlagsStay
 pub mod FrameWhole
 pub mod Arrives
 pub mod ByHistory
+pub mod Bench

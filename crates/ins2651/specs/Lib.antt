@@ -12,3 +12,4 @@ pub mod Runs
 pub mod Rows
 pub mod History
 pub mod Line
+pub mod BenchCases
