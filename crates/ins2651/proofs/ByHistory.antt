@@ -41,7 +41,7 @@ use Rattle.ins2651.specs.Rows.{refusal}
 use Rattle.ins2651.specs.History.{Happened, plainly, happened, history, dsrLow, dcdLow, unreadBy, framingBy, parityBy, overrunBy, enabledBy, waitingBy, emptyBy, changeBy, statusBy}
 use Rattle.ins2651.proofs.Settled.{settled-is, reset-in}
 use Rattle.ins2651.proofs.Done.{done-read, done-write, done-pins, done-receive}
-use Rattle.ins2651.proofs.Refused.{commands-fit, refused-unchanged}
+use Rattle.ins2651.proofs.Refused.{read-address, write-address, commands-fit, refused-unchanged}
 use Rattle.ins2651.proofs.InRange.{In, parts, next-in, after-in}
 
 -- the device shows what happened
@@ -202,15 +202,15 @@ module _ (d : Device) (h : inRange d ≡ true) (es : List Happened) (a : Agrees 
   settled-shown = subst (λ (e : Device). Agrees e es) (sym (settled-is d h)) a
 
   done-shown : (c : Call) → refusal d c ≡ 0 → Shown c
-  unfolding transmit writeRefusal
+  unfolding transmit
   done-shown Reset n = record { dsr = refl; dcd = refl; framing = refl; overrun = refl; parity = refl; empty = refl; change = refl; unread = refl; enabled = refl; waiting = refl }
   done-shown (Read address) n =
       subst (λ (o : Answer). Agrees (o .device) (plainly (Read address) ∷ es)) (sym (done-read d address n))
-      (read-shown (settled d) es settled-shown address (each (λ (k : ℕ). k ≡ 0 → address ≤ 3) (ltb 3 address) (λ t e. absurd (omega arith)) (λ t e. omega (arith, ltb-false 3 address t)) n))
+      (read-shown (settled d) es settled-shown address (read-address address n))
   done-shown (Write address v) n =
       subst (λ (o : Outcome). Agrees (o .device) (plainly (Write address v) ∷ es)) (sym (done-write d address v n))
       (write-shown (settled d) es settled-shown address v
-      (each (λ (k : ℕ). k ≡ 0 → address ≤ 3) (ltb 3 address) (λ t e. absurd (omega arith)) (λ t e. omega (arith, ltb-false 3 address t)) n)
+      (write-address (settled d .registers) address v n)
       (λ e. commands-fit (settled d .registers) v (subst (λ (k : ℕ). writeRefusal (settled d .registers) k v ≡ 0) e n)))
   done-shown (SetPins dsr dcd cts) n =
       let q = both (leb (d .pins .dsr) 1 && leb (d .pins .dcd) 1) (leb (d .pins .cts) 1) (parts d h .pins) in

@@ -11,3 +11,5 @@ pub mod FrameWhole
 pub mod Arrives
 pub mod ByHistory
 pub mod Bench
+pub mod PointersMove
+pub mod Rules

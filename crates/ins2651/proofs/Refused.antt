@@ -79,15 +79,19 @@ given-exactly d Transmit = none
 given-exactly d (Receive x) = level-rows (leb x 1)
 given-exactly d Outputs = none
 
--- == a write that is not refused ==
+-- == a read or a write that is not refused ==
+
+pub read-address : (address : ℕ) → readRefusal address ≡ 0 → address ≤ 3
+read-address address h = each (λ (n : ℕ). n ≡ 0 → address ≤ 3) (ltb 3 address) (λ t e. absurd (omega arith)) (λ t e. omega (arith, ltb-false 3 address t)) h
 
 module _ (r : Registers) where
+  pub write-address : (address v : ℕ) → writeRefusal r address v ≡ 0 → address ≤ 3
+  unfolding writeRefusal
+  write-address address v h = each (λ (n : ℕ). n ≡ 0 → address ≤ 3) (ltb 3 address) (λ t e. absurd (omega arith)) (λ t e. omega (arith, ltb-false 3 address t)) h
+
   -- the last address is the command's
   pub address-is-3 : (address v : ℕ) → writeRefusal r address v ≡ 0 → eqb address 0 ≡ false → eqb address 1 ≡ false → eqb address 2 ≡ false → address ≡ 3
-  unfolding writeRefusal
-  address-is-3 address v h a b c =
-      each (λ (n : ℕ). n ≡ 0 → address ≡ 3) (ltb 3 address) (λ t e. absurd (omega arith))
-      (λ t e. omega (arith, ltb-false 3 address t, eqb-false address 0 a, eqb-false address 1 b, eqb-false address 2 c)) h
+  address-is-3 address v h a b c = omega (arith, write-address address v h, eqb-false address 0 a, eqb-false address 1 b, eqb-false address 2 c)
 
   pub commands-fit : (v : ℕ) → writeRefusal r 3 v ≡ 0 → v < 64
   unfolding writeRefusal

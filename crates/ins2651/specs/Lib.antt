@@ -13,3 +13,4 @@ pub mod Rows
 pub mod History
 pub mod Line
 pub mod BenchCases
+pub mod Pointers

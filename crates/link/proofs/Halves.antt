@@ -39,6 +39,11 @@ module _ (s : SenderHalf) (ready broken : Bool) (f : Format) where
   unfolding transmit
   transmit-begins t r b g w = rw (t, r, b, g, w)
 
+  -- where nothing may start and no frame is under way 1 is sent, and a guard falls all the same
+  pub transmit-idle : on (s .frame .place) ≡ false → ready ≡ false → transmit s ready broken f ≡ markTick s
+  unfolding transmit
+  transmit-idle t r = rw (t, r) (either (λ (o : Sent). o ≡ markTick s) (on (s .guard)) {x = markTick s} {y = markTick s} refl refl)
+
   -- the holding register is empty after a frame's first tick, and as it was after any other
   pub full-after : transmit s ready broken f .half .full ≡ cond (transmit s ready broken f .began) 0 (s .full)
   unfolding transmit
@@ -114,6 +119,16 @@ module _ (r : ReceiverHalf) (live : Bool) (f : Format) (x : Bool) where
       either (λ (o : Received). o .overrun ≡ (any (o .heard) && on (r .unread))) live
       {x = hear r (formatFor r f) x} {y = record { half = dropped r; heard = Nothing; overrun = false }}
       (take-overrun (stepped r (formatFor r f) (sampled .next)) (sampled .heard)) refl
+
+-- a tick that is off drops the character under way, waits for a 1 and brings nothing
+pub receive-off : (r : ReceiverHalf) (f : Format) (x : Bool) → receive r false f x ≡ record { half = dropped r; heard = Nothing; overrun = false }
+unfolding receive
+receive-off r f x = refl
+
+-- a character under way is read in the format of its tick 0, whatever the tick is told
+pub receive-under : (r : ReceiverHalf) (f : Format) (x : Bool) → underWay (r .state) ≡ true → receive r true f x ≡ hear r (r .format) x
+unfolding receive
+receive-under r f x u = ap (λ (b : Bool). hear r (cond b (r .format) f) x) u
 
 -- the half reads in the format f: it has no character under way, or one that began in f
 abbrev pub Tuned : Format → ReceiverHalf → Type 0
