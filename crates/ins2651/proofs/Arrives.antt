@@ -6,7 +6,7 @@ use mathlib.Core.Path.{_≡_, refl, sym, ap, ap₂, subst, _∙_}
 use mathlib.Core.Bool.{Bool, true, false, cond, _&&_}
 use mathlib.Core.List.{List, [], _∷_}
 use lib.Dec.{leb, eqb}
-use borrow.Author.Tests.{le-leb, lt-leb, leb-true, leb-false, eqb-true, eqb-false}
+use borrow.Author.Tests.{eqb-true, eqb-false}
 use Rattle.line.specs.declared.Format.{Format}
 use Rattle.line.specs.declared.Receiver.{Receiver}
 use Rattle.line.specs.declared.Heard.{Heard}
@@ -21,17 +21,17 @@ use Rattle.line.proofs.Table.{both}
 use Rattle.link.specs.declared.ReceiverHalf.{ReceiverHalf}
 use Rattle.link.specs.declared.Received.{Received}
 use Rattle.link.specs.Parts.{emptied, dropped}
-use Rattle.link.specs.Hearing.{formatFor, take, stepped}
+use Rattle.link.specs.Hearing.{take, stepped}
 use Rattle.link.specs.Hearing as link-hearing
-use Rattle.link.proofs.Choice.{either, each}
-use Rattle.link.proofs.Halves.{Tuned, tuned-idle, receive-is, hear-state, hear-heard, hear-tuned}
+use Rattle.link.proofs.Choice.{either}
+use Rattle.link.proofs.Halves.{Tuned, receive-is, hear-state, hear-heard, hear-tuned}
 use Rattle.ins2651.specs.declared.Device.{Device}
 use Rattle.ins2651.specs.declared.Outcome.{Outcome}
 use Rattle.ins2651.specs.Modes.{has, receiveEnable, receiveFormat}
-use Rattle.ins2651.specs.Conditions.{receiving, carrier, modeSet}
+use Rattle.ins2651.specs.Conditions.{receiving}
 use Rattle.ins2651.specs.Ranges.{inRange, settled}
-use Rattle.ins2651.specs.RegisterWrites.{stored, receiverCommanded, writeRegister}
-use Rattle.ins2651.specs.Ticks.{received, receiveTick, transmitTick, transmit}
+use Rattle.ins2651.specs.RegisterWrites.{stored, writeRegister}
+use Rattle.ins2651.specs.Ticks.{received, receiveTick}
 use Rattle.ins2651.specs.Runs.{Call, Reset, Read, Write, SetPins, Transmit, Receive, Outputs, next, after}
 use Rattle.ins2651.specs.Rows.{refusal}
 use Rattle.ins2651.specs.Line.{atSample, samples, arrivedIn, lastValue, Listens, Throughout}

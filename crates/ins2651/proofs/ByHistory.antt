@@ -1,6 +1,6 @@
 -- After any run of calls from reset, each status bit is what the history of the run says.
 -- Assumes nothing.
-use Prim.Native.Nat.{ℕ, zero, suc, _+_, _/_, _%_, _≤_, _<_}
+use Prim.Native.Nat.{ℕ, zero, suc, _/_, _%_, _≤_, _<_}
 use native.Mathlib.Omega.{arith}
 use mathlib.Core.Path.{_≡_, refl, sym, ap, ap₂, subst, _∙_}
 use mathlib.Core.Bool.{Bool, true, false, cond, not, _&&_, _||_}
@@ -10,39 +10,33 @@ use borrow.Author.Tests.{lt-ltb, ltb-true, ltb-false, leb-true, eq-eqb, eqb-true
 use Rattle.line.specs.declared.Arrival.{Arrival}
 use Rattle.line.specs.declared.Heard.{Heard}
 use Rattle.line.specs.declared.Heard.the-variants.{Nothing, Character}
-use Rattle.line.specs.Sending.{bit, on, differ}
+use Rattle.line.specs.Sending.{on, differ}
 use Rattle.line.proofs.Table.{both}
-use Rattle.link.specs.declared.ReceiverHalf.{ReceiverHalf}
-use Rattle.link.specs.declared.Received.{Received}
-use Rattle.link.specs.declared.SenderHalf.{SenderHalf}
-use Rattle.link.specs.declared.Sent.{Sent}
 use Rattle.link.specs.Parts.{dropped, emptied}
 use Rattle.link.specs.Hearing.{arrives}
 use Rattle.link.proofs.Choice.{either, each}
 use Rattle.link.proofs.Halves.{full-after, unread-after, overrun-told}
 use Rattle.ins2651.specs.declared.Registers.{Registers}
-use Rattle.ins2651.specs.declared.Flags.{Flags}
-use Rattle.ins2651.specs.declared.Pins.{Pins}
 use Rattle.ins2651.specs.declared.Device.{Device}
 use Rattle.ins2651.specs.declared.Answer.{Answer}
 use Rattle.ins2651.specs.declared.Outcome.{Outcome}
 use Rattle.ins2651.specs.Shape.{resetDevice}
 use Rattle.ins2651.specs.Modes.{sendFormat, receiveFormat, transmitEnable, receiveEnable, commandClears}
-use Rattle.ins2651.specs.Conditions.{dataSetReady, carrier, transmitting, sending, breaking, receiving, unread, vacant}
-use Rattle.ins2651.specs.Status.{weigh, statusByte}
-use Rattle.ins2651.specs.Ranges.{pinsInRange, inRange, settled}
-use Rattle.ins2651.specs.Refusals.{writeRefusal, pinsRefusal}
+use Rattle.ins2651.specs.Conditions.{dataSetReady, carrier, transmitting, sending, breaking, receiving, unread}
+use Rattle.ins2651.specs.Status.{statusByte}
+use Rattle.ins2651.specs.Ranges.{inRange, settled}
+use Rattle.ins2651.specs.Refusals.{writeRefusal}
 use Rattle.ins2651.specs.RegisterReads.{readRegister}
 use Rattle.ins2651.specs.RegisterWrites.{stored, unless, synsWritten, modesWritten, writeRegister}
 use Rattle.ins2651.specs.Pinning.{orSet, changes, pinned}
 use Rattle.ins2651.specs.Ticks.{sent, transmitTick, transmit, noted, received, receiveTick}
-use Rattle.ins2651.specs.Runs.{Call, Reset, Read, Write, SetPins, Transmit, Receive, Outputs, next, after, Said, said}
+use Rattle.ins2651.specs.Runs.{Call, Reset, Read, Write, SetPins, Transmit, Receive, Outputs, next, after, said}
 use Rattle.ins2651.specs.Rows.{refusal}
 use Rattle.ins2651.specs.History.{Happened, plainly, happened, history, dsrLow, dcdLow, unreadBy, framingBy, parityBy, overrunBy, enabledBy, waitingBy, emptyBy, changeBy, statusBy}
 use Rattle.ins2651.proofs.Settled.{settled-is, reset-in}
 use Rattle.ins2651.proofs.Done.{done-read, done-write, done-pins, done-receive}
 use Rattle.ins2651.proofs.Refused.{read-address, write-address, commands-fit, refused-unchanged}
-use Rattle.ins2651.proofs.InRange.{In, parts, next-in, after-in}
+use Rattle.ins2651.proofs.InRange.{parts, next-in, after-in}
 
 -- the device shows what happened
 record Agrees (d : Device) (es : List Happened) : Type 0 where

@@ -3,7 +3,7 @@
 use Prim.Native.Nat.{ℕ, _<_}
 use native.Mathlib.Omega.{arith}
 use mathlib.Core.Path.{_≡_, refl, sym, ap, subst, _∙_}
-use mathlib.Core.Bool.{Bool, true, false, cond, not, _&&_, _||_}
+use mathlib.Core.Bool.{Bool, true, false, not, _&&_}
 use mathlib.Core.List.{List, [], _∷_}
 use lib.Dec.{ltb, eqb}
 use borrow.Author.Tests.{lt-ltb, eq-eqb, eqb-true, eqb-false}
@@ -14,7 +14,6 @@ use Rattle.line.proofs.Table.{both}
 use Rattle.link.proofs.Choice.{either, each}
 use Rattle.ins2651.specs.declared.Flags.{Flags}
 use Rattle.ins2651.specs.declared.Device.{Device}
-use Rattle.ins2651.specs.declared.Answer.{Answer}
 use Rattle.ins2651.specs.declared.Outcome.{Outcome}
 use Rattle.ins2651.specs.Modes.{commandClears}
 use Rattle.ins2651.specs.Ranges.{inRange, settled}

@@ -1,15 +1,15 @@
 -- Every value of the mode registers gives a format in range.
 -- Assumes nothing.
-use Prim.Native.Nat.{ℕ, _+_, _*_, _/_, _%_, _≤_}
+use Prim.Native.Nat.{ℕ, _+_, _*_, _/_, _%_}
 use native.Mathlib.Omega.{arith}
 use mathlib.Core.Path.{_≡_, refl}
-use mathlib.Core.Bool.{Bool, true, _&&_, _||_}
-use lib.Dec.{leb, eqb}
+use mathlib.Core.Bool.{Bool, true}
+use lib.Dec.{eqb}
 use borrow.Author.Tests.{le-leb}
 use Rattle.line.specs.declared.Format.{Format}
 use Rattle.line.specs.Range.{isFactor, isLength, isStop, inRange}
 use Rattle.link.proofs.Choice.{either, all}
-use Rattle.ins2651.specs.Modes.{factorOf, stopOf, formatOf}
+use Rattle.ins2651.specs.Modes.{stopOf, formatOf}
 
 -- 1, 1½ and 2 bits of F ticks
 stop-in : (m F : ℕ) (f : ℕ → Format) → isStop (f F) ≡ true → isStop (f (3 * F / 2)) ≡ true → isStop (f (2 * F)) ≡ true → isStop (f (stopOf m F)) ≡ true

@@ -1,10 +1,10 @@
 -- A frame is whole: once begun it sends its levels in turn, whatever calls but reset come between, and ends after L transmit ticks.
 -- Assumes nothing.
-use Prim.Native.Nat.{ℕ, zero, suc, _+_, _≤_, _<_}
+use Prim.Native.Nat.{ℕ, suc, _+_, _≤_, _<_}
 use native.Mathlib.Nat.{add-zero}
 use native.Mathlib.Omega.{arith}
 use mathlib.Core.Path.{_≡_, refl, sym, ap, ap₂, _∙_}
-use mathlib.Core.Bool.{Bool, true, false, cond, not, _&&_}
+use mathlib.Core.Bool.{Bool, true, false, cond, not}
 use mathlib.Core.List.{List, [], _∷_, map}
 use lib.Dec.{ltb, eqb}
 use borrow.Author.Tests.{lt-ltb, le-ltb, ltb-true, ltb-false, eqb-true, eqb-false}
@@ -23,7 +23,6 @@ use Rattle.link.proofs.Choice.{either}
 use Rattle.link.proofs.Halves.{frameOf, transmit-under, transmit-begins, length-bound, frame-goes-on, frame-ends}
 use Rattle.ins2651.specs.declared.Device.{Device}
 use Rattle.ins2651.specs.declared.Outcome.{Outcome}
-use Rattle.ins2651.specs.declared.Ticked.{Ticked}
 use Rattle.ins2651.specs.Modes.{has, sendFormat}
 use Rattle.ins2651.specs.Conditions.{sending, breaking}
 use Rattle.ins2651.specs.Ranges as range

@@ -5,14 +5,14 @@ use native.Mathlib.Omega.{arith}
 use mathlib.Core.Path.{_≡_, refl, sym, ap, subst, _∙_}
 use mathlib.Core.Bool.{Bool, true, false, cond, not, _&&_}
 use mathlib.Core.List.{List, [], _∷_}
-use lib.Dec.{ltb, leb, eqb}
+use lib.Dec.{leb, eqb}
 use borrow.Author.Tests.{lt-ltb, eqb-true, eqb-false}
 use Rattle.line.specs.declared.Heard.{Heard}
 use Rattle.line.specs.declared.Heard.the-variants.{Nothing, Character}
-use Rattle.line.specs.Sending.{bit, on}
+use Rattle.line.specs.Sending.{on}
 use Rattle.line.proofs.Table.{both}
 use Rattle.link.specs.declared.ReceiverHalf.{ReceiverHalf}
-use Rattle.link.specs.Parts.{emptied, dropped}
+use Rattle.link.specs.Parts.{dropped}
 use Rattle.link.specs.Within.{senderInRange, receiverInRange}
 use Rattle.link.proofs.Choice.{either, each, all}
 use Rattle.link.proofs.SenderRange.{loaded-in, transmit-in}
@@ -25,10 +25,10 @@ use Rattle.ins2651.specs.declared.Outcome.{Outcome}
 use Rattle.ins2651.specs.Shape.{resetDevice, pointing, withEmpty, withChange}
 use Rattle.ins2651.specs.Modes.{has, commandClears, transmitEnable, receiveEnable, sendFormat, receiveFormat}
 use Rattle.ins2651.specs.Conditions.{sending, breaking, receiving, transmitting}
-use Rattle.ins2651.specs.Ranges.{isMode1, mode1InRange, commandInRange, registersInRange, pinsInRange, flagsInRange, inRange, settled}
-use Rattle.ins2651.specs.Refusals.{readRefusal, mode1Refusal, modeRefusal, commandRefusal, writeRefusal, pinsRefusal, levelRefusal}
+use Rattle.ins2651.specs.Ranges.{mode1InRange, commandInRange, registersInRange, pinsInRange, flagsInRange, inRange}
+use Rattle.ins2651.specs.Refusals.{mode1Refusal, modeRefusal, writeRefusal, pinsRefusal}
 use Rattle.ins2651.specs.RegisterReads.{readRegister}
-use Rattle.ins2651.specs.RegisterWrites.{synsWritten, modesWritten, stored, unless, flagsCommanded, receiverCommanded, writeRegister}
+use Rattle.ins2651.specs.RegisterWrites.{synsWritten, modesWritten, stored, unless, writeRegister}
 use Rattle.ins2651.specs.Pinning.{changes, orSet, pinned}
 use Rattle.ins2651.specs.Ticks.{sent, transmitTick, transmit, noted, received, receiveTick}
 use Rattle.ins2651.specs.Runs.{Call, Reset, Read, Write, SetPins, Transmit, Receive, Outputs, next, after}

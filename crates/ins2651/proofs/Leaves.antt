@@ -1,7 +1,7 @@
 -- Nothing else moves: what each call leaves as it was, one law a call.
 -- Assumes nothing.
 use Prim.Native.Nat.{ℕ}
-use mathlib.Core.Path.{_≡_, refl, sym, ap, subst}
+use mathlib.Core.Path.{_≡_, refl, sym, subst}
 use mathlib.Core.Bool.{Bool}
 use lib.Dec.{eqb}
 use Rattle.line.specs.declared.Heard.{Heard}
@@ -17,7 +17,7 @@ use Rattle.ins2651.specs.Ranges.{settled}
 use Rattle.ins2651.specs.RegisterReads.{readRegister}
 use Rattle.ins2651.specs.Pinning.{pinned}
 use Rattle.ins2651.specs.Ticks.{transmitTick, transmit, noted, received, receiveTick}
-use Rattle.ins2651.specs.Runs.{Call, Read, SetPins, Transmit, Receive, next}
+use Rattle.ins2651.specs.Runs.{Read, SetPins, Transmit, Receive, next}
 use Rattle.ins2651.specs.Rows.{refusal}
 use Rattle.ins2651.proofs.Done.{done-read, done-pins, done-receive}
 

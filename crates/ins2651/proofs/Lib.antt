@@ -13,3 +13,4 @@ pub mod ByHistory
 pub mod Bench
 pub mod PointersMove
 pub mod Rules
+pub mod StatusBits

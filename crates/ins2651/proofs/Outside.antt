@@ -19,7 +19,7 @@ use Rattle.ins2651.specs.RegisterReads.{readRegister, read}
 use Rattle.ins2651.specs.RegisterWrites.{writeRegister, write}
 use Rattle.ins2651.specs.Pinning.{pinned, setPins}
 use Rattle.ins2651.specs.Ticks.{transmitTick, transmit, receiveTick, receive}
-use Rattle.ins2651.specs.Runs.{Call, Reset, Read, Write, SetPins, Transmit, Receive, Outputs, next, Said, levels, said}
+use Rattle.ins2651.specs.Runs.{Call, Reset, Read, Write, SetPins, Transmit, Receive, Outputs, next, levels, said}
 use Rattle.ins2651.specs.Rows.{refusal}
 use Rattle.ins2651.proofs.Settled.{settled-is, settled-out, reset-in}
 use Rattle.ins2651.proofs.Done.{done-read, done-write, done-pins, done-receive}

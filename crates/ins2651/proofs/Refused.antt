@@ -19,7 +19,7 @@ use Rattle.ins2651.specs.RegisterReads.{readRegister, read}
 use Rattle.ins2651.specs.RegisterWrites.{write}
 use Rattle.ins2651.specs.Pinning.{setPins}
 use Rattle.ins2651.specs.Ticks.{receive}
-use Rattle.ins2651.specs.Runs.{Call, Reset, Read, Write, SetPins, Transmit, Receive, Outputs, next, Said, said}
+use Rattle.ins2651.specs.Runs.{Call, Reset, Read, Write, SetPins, Transmit, Receive, Outputs, next, said}
 use Rattle.ins2651.specs.Rows.{refusal, addressAbove3, noLevel, noStop, synchronous, notOperating}
 
 -- == the rows ==

@@ -2,14 +2,12 @@
 -- Assumes nothing.
 use Prim.Native.Nat.{ℕ, _-_, _/_, _%_, _<_}
 use native.Mathlib.Omega.{arith}
-use mathlib.Core.Path.{_≡_, refl, sym, ap, ap₂, _∙_}
+use mathlib.Core.Path.{_≡_, refl, sym, ap, _∙_}
 use mathlib.Core.Bool.{Bool, true, false, cond, _&&_}
 use mathlib.Core.List.{[], _∷_}
 use lib.Dec.{eqb}
 use borrow.Author.Tests.{lt-ltb}
 use Rattle.line.specs.Sending.{bit, on}
-use Rattle.link.specs.declared.ReceiverHalf.{ReceiverHalf}
-use Rattle.link.specs.declared.SenderHalf.{SenderHalf}
 use Rattle.link.specs.declared.Sent.{Sent}
 use Rattle.link.specs.declared.Received.{Received}
 use Rattle.link.specs.Parts.{withGuard, dropped, emptied}
@@ -26,7 +24,7 @@ use Rattle.ins2651.specs.Refusals.{writeRefusal}
 use Rattle.ins2651.specs.RegisterReads.{readRegister}
 use Rattle.ins2651.specs.RegisterWrites.{stored, writeRegister}
 use Rattle.ins2651.specs.Ticks.{sent, transmitTick, transmit, received, receiveTick}
-use Rattle.ins2651.specs.Runs.{Call, Read, Write, Transmit, Receive, next, Said, said}
+use Rattle.ins2651.specs.Runs.{Read, Write, Transmit, Receive, next, said}
 use Rattle.ins2651.specs.Rows.{refusal}
 use Rattle.ins2651.proofs.Settled.{settled-is}
 use Rattle.ins2651.proofs.Done.{done-read, done-write, done-receive}
@@ -107,8 +105,8 @@ command-reads-back d v h l =
     let z : stored v / 16 % 2 ≡ 0 = omega arith in
     record {
       value =
-        ap (λ (o : Answer). record { refusal = o .refusal; values = o .value ∷ [] }) (done-read (next d (Write 3 v)) 3 refl)
-        ∙ ap (λ (s : Device). record { refusal = 0; values = s .registers .command ∷ [] }) e;
+          ap (λ (o : Answer). record { refusal = o .refusal; values = o .value ∷ [] }) (done-read (next d (Write 3 v)) 3 refl)
+          ∙ ap (λ (s : Device). record { refusal = 0; values = s .registers .command ∷ [] }) e;
       bit4 = ap (λ (k : ℕ). eqb k 1) z;
     }
 

@@ -1,10 +1,9 @@
 // The INS2651 over its two halves: document 01's registers, pins, outputs and ticks.
 // Every call takes any number in any field. A device out of range is taken as one just reset; a refused call hands it back as given.
 ghost use mathlib.Core.Path.{_≡_};
-ghost use mathlib.Core.Bool.{cond};
 ghost use Prim.Native.Nat.{_≤_};
 ghost use Rattle.line.specs.Sending.{bit};
-ghost use Rattle.ins2651.specs.Shape.{resetDevice, withSyns};
+ghost use Rattle.ins2651.specs.Shape.{resetDevice};
 ghost use Rattle.ins2651.specs.Modes;
 ghost use Rattle.ins2651.specs.Modes.{factorOf, stopOf, formatOf, sendFormat, receiveFormat};
 ghost use Rattle.ins2651.specs.Conditions;
@@ -16,7 +15,7 @@ ghost use Rattle.ins2651.specs.Refusals.{readRefusal, mode1Refusal, mode
 ghost use Rattle.ins2651.specs.RegisterReads;
 ghost use Rattle.ins2651.specs.RegisterReads.{readHolding, readStatus, readMode, readCommand, readRegister};
 ghost use Rattle.ins2651.specs.RegisterWrites;
-ghost use Rattle.ins2651.specs.RegisterWrites.{writeHolding, synsWritten, modesWritten, flagsCommanded, receiverCommanded, writeCommand, writeRegister};
+ghost use Rattle.ins2651.specs.RegisterWrites.{writeHolding, synsWritten, writeSyn, modesWritten, writeMode, flagsCommanded, receiverCommanded, writeCommand, writeRegister};
 ghost use Rattle.ins2651.specs.Pinning.{setPins};
 ghost use Rattle.ins2651.specs.Pinning;
 ghost use Rattle.ins2651.specs.Ticks;
@@ -522,19 +521,13 @@ fn mode1_refusal(v: u8) -> u8
     if v % 4 == 0 {
         return 4;
     }
-    if v / 64 == 0 {
-        return 3;
-    }
-    0
+    if v / 64 == 0 { 3 } else { 0 }
 }
 
 fn mode_refusal(r: Registers, v: u8) -> u8
     ensures { λ n. ⌜ n ≡ modeRefusal r v ⌝ }
 {
-    if r.modes == 0 {
-        return mode1_refusal(v);
-    }
-    0
+    if r.modes == 0 { mode1_refusal(v) } else { 0 }
 }
 
 fn command_refusal(v: u8) -> u8
@@ -552,10 +545,7 @@ fn write_refusal(r: Registers, address: u8, v: u8) -> u8
     if address == 2 {
         return mode_refusal(r, v);
     }
-    if address == 3 {
-        return command_refusal(v);
-    }
-    0
+    if address == 3 { command_refusal(v) } else { 0 }
 }
 
 fn write_holding(mut d: Device, v: u8) -> Device
@@ -651,7 +641,7 @@ fn write_command(mut d: Device, v: u8) -> Device
 }
 
 fn write_syn(mut d: Device, v: u8) -> Device
-    ensures { λ r. ⌜ r ≡ Rattle.ins2651.specs.Shape.withRegisters d (synsWritten (d .registers) v) ⌝ }
+    ensures { λ r. ⌜ r ≡ writeSyn d v ⌝ }
 {
     let r = d.registers;
     let written = syns_written(r, v);
@@ -660,7 +650,7 @@ fn write_syn(mut d: Device, v: u8) -> Device
 }
 
 fn write_mode(mut d: Device, v: u8) -> Device
-    ensures { λ r. ⌜ r ≡ Rattle.ins2651.specs.Shape.withRegisters d (modesWritten (d .registers) v) ⌝ }
+    ensures { λ r. ⌜ r ≡ writeMode d v ⌝ }
 {
     let r = d.registers;
     let written = modes_written(r, v);
@@ -684,21 +674,21 @@ fn write_register(d: Device, address: u8, v: u8) -> Device
 }
 
 // A register write.
-pub fn write(d: Device, address: u8, v: u8) -> Outcome
-    ensures { λ r. ⌜ r ≡ RegisterWrites.write d address v ⌝ }
+pub fn write(given: Device, address: u8, v: u8) -> Outcome
+    ensures { λ r. ⌜ r ≡ RegisterWrites.write given address v ⌝ }
 {
-    let s = settle(d);
-    let registers = s.registers;
+    let d = settle(given);
+    let registers = d.registers;
     let n = write_refusal(registers, address, v);
     if n == 0 {
         return Outcome {
             refusal: 0,
-            device: write_register(s, address, v),
+            device: write_register(d, address, v),
         };
     }
     Outcome {
         refusal: n,
-        device: d,
+        device: given,
     }
 }
 
@@ -773,7 +763,8 @@ pub fn transmit_tick(mut d: Device) -> Ticked
 pub fn transmit(d: Device) -> Ticked
     ensures { λ r. ⌜ r ≡ Ticks.transmit d ⌝ }
 {
-    transmit_tick(settle(d))
+    let s = settle(d);
+    transmit_tick(s)
 }
 
 // What arrives sets flags, and clears none.

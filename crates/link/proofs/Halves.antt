@@ -4,9 +4,8 @@
 use Prim.Native.Nat.{ℕ, suc, _+_, _*_, _%_, _≤_, _<_}
 use native.Mathlib.Nat.{mul-le-mul, mod-eq-of-lt}
 use native.Mathlib.Omega.{arith}
-use mathlib.Core.Path.{_≡_, refl, ap, sym, _∙_}
+use mathlib.Core.Path.{_≡_, refl, ap, _∙_}
 use mathlib.Core.Bool.{Bool, true, false, cond, _&&_}
-use lib.Dec.{ltb}
 use borrow.Author.Tests.{lt-ltb, le-ltb}
 use Rattle.line.specs.declared.Format.{Format}
 use Rattle.line.specs.declared.Arrival.{Arrival}
@@ -22,7 +21,7 @@ use Rattle.link.specs.declared.ReceiverHalf.{ReceiverHalf}
 use Rattle.link.specs.declared.Received.{Received}
 use Rattle.link.specs.declared.Sent.{Sent}
 use Rattle.link.specs.Parts.{noFrame, noFormat, dropped}
-use Rattle.link.specs.Transmitting.{nextPlace, frameAt, frameNext, frameTick, beginTick, breakTick, markTick, transmit}
+use Rattle.link.specs.Transmitting.{nextPlace, frameNext, frameTick, beginTick, breakTick, markTick, transmit}
 use Rattle.link.proofs.Choice.{either}
 use Rattle.link.specs.Hearing.{underWay, formatFor, stepped, arrives, take, hear, receive}
 

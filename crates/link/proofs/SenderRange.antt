@@ -1,11 +1,11 @@
 -- A sending half in range stays there, whatever a tick is told.
 -- Assumes nothing.
-use Prim.Native.Nat.{ℕ, zero, suc, _+_, _-_, _%_, _≤_, _<_}
+use Prim.Native.Nat.{ℕ, _+_, _-_, _%_, _≤_}
 use native.Mathlib.Omega.{arith}
 use mathlib.Core.Path.{_≡_, refl, ap, sym, subst, _∙_}
 use mathlib.Core.Bool.{Bool, true, false, cond, _&&_}
 use lib.Dec.{ltb, leb, eqb}
-use borrow.Author.Tests.{ltb-true, ltb-false, le-leb, leb-true, eq-eqb, eqb-true}
+use borrow.Author.Tests.{ltb-true, ltb-false, le-leb, leb-true, eqb-true}
 use Rattle.line.specs.declared.Format.{Format}
 use Rattle.line.specs.Sending.{on, frameLength}
 use Rattle.line.specs.Range.{inRange}
@@ -14,7 +14,7 @@ use Rattle.line.proofs.Table.{both}
 use Rattle.link.specs.declared.Frame.{Frame}
 use Rattle.link.specs.declared.SenderHalf.{SenderHalf}
 use Rattle.link.specs.declared.Sent.{Sent}
-use Rattle.link.specs.Parts.{noFrame, idleSender, loaded}
+use Rattle.link.specs.Parts.{idleSender, loaded}
 use Rattle.link.specs.Transmitting.{nextPlace, frameAt, frameNext, transmit}
 use Rattle.link.specs.Within.{isNoFormat, holdingInRange, busyInRange, freeInRange, frameInRange, senderInRange}
 use Rattle.link.proofs.Choice.{each, all}

@@ -1,15 +1,14 @@
 // The two double-buffered halves that every chip has: document 01, "Sending" and "Receiving".
 // Every call takes any number in any field: specs/ says what each answers, inside the range and outside.
 ghost use mathlib.Core.Path.{_≡_};
-ghost use mathlib.Core.Bool.{_&&_};
-ghost use Prim.Native.Nat.{ℕ, suc, _+_, _-_, _^_, _%_};
+ghost use Prim.Native.Nat.{suc, _+_, _-_, _^_};
 ghost use lib.Dec.{ltb};
 ghost use Rattle.line.specs.Sending.{parityBits};
 ghost use Rattle.link.specs.Parts.{noFormat, noFrame, idleSender, loaded, unloaded, idleReceiver, dropped, emptied};
 ghost use Rattle.link.specs.Transmitting;
 ghost use Rattle.link.specs.Transmitting.{nextPlace, frameNext, frameTick, beginTick, idleTick, breakTick, markTick};
 ghost use Rattle.link.specs.Hearing;
-ghost use Rattle.link.specs.Hearing.{underWay, formatFor, stepped, holds};
+ghost use Rattle.link.specs.Hearing.{underWay, formatFor, keptFormat, stepped, holds};
 ghost use Rattle.link.specs.Within.{isNoFormat, holdingInRange, busyInRange, freeInRange, frameInRange, senderInRange, countdownInRange, valueInRange, wrongInRange, assemblyInRange, restInRange, stateInRange, receiverInRange};
 use line::Format;
 use line::Heard;
@@ -221,6 +220,9 @@ pub fn transmit(s: SenderHalf, ready: bool, broken: bool, f: Format) -> Sent
 
 // == the receiver ==
 
+// What a read gives before anything has come.
+const FIRST_HELD: u8 = 0;
+
 // Nothing has come, and it waits for a 1.
 pub fn idle_receiver() -> ReceiverHalf
     ensures { λ r. ⌜ r ≡ idleReceiver ⌝ }
@@ -228,7 +230,7 @@ pub fn idle_receiver() -> ReceiverHalf
     ReceiverHalf {
         state: line::waiting(),
         format: no_format(),
-        holding: 0,
+        holding: FIRST_HELD,
         unread: 0,
     }
 }
@@ -270,7 +272,7 @@ fn format_for(r: ReceiverHalf, f: Format) -> Format
 }
 
 fn kept_format(s: Receiver, g: Format) -> Format
-    ensures { λ r. ⌜ r ≡ mathlib.Core.Bool.cond (underWay s) g noFormat ⌝ }
+    ensures { λ r. ⌜ r ≡ keptFormat s g ⌝ }
 {
     if under_way(s) {
         return g;
