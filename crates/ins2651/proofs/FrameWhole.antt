@@ -104,7 +104,7 @@ at-other (Receive x) a b e = refl
 at-other Outputs a b e = refl
 
 -- the frame before its place i; none after the last
-abbrev frameBefore : Format → ℕ → ℕ → Frame
+abbrev pub frameBefore : Format → ℕ → ℕ → Frame
 frameBefore f c i = cond (ltb i (frameLength f)) (frameOf f c i) noFrame
 
 pub record Whole (f : Format) (c i : ℕ) (d : Device) (cs : List Call) : Type 0 where
@@ -208,11 +208,13 @@ module _ (d : Device) (v : ℕ) (h : range.inRange d ≡ true) (may : sending d 
   sent-is : sent (settled written) ≡ beginTick (loaded (d .sender) v) f
   sent-is = ap sent (settled-is written (next-in d (Write 0 v) h) ∙ written-is) ∙ begin-is
 
-  first-level : transmit written .level ≡ bit (level f v 0)
+  -- its first tick sends the start bit ..
+  pub first-level : transmit written .level ≡ bit (level f v 0)
   unfolding transmit transmitTick
   first-level = ap (λ (o : Sent). bit (o .level)) sent-is
 
-  first-frame : next written Transmit .sender .frame ≡ frameBefore f v 1
+  -- .. and the frame goes on from place 1, in the format of now
+  pub first-frame : next written Transmit .sender .frame ≡ frameBefore f v 1
   unfolding transmit transmitTick
   first-frame = ap (λ (o : Sent). o .half .frame) sent-is ∙ frame-next f v (length-bound f fits) 0 long
     where

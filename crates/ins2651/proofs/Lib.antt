@@ -14,3 +14,4 @@ pub mod Bench
 pub mod PointersMove
 pub mod Rules
 pub mod StatusBits
+pub mod Premises

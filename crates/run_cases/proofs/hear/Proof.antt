@@ -1,10 +1,10 @@
--- `run_cases::chip::hear` is safe and ends: the count goes up to n.
+-- `run_cases::hear` is safe and ends: the count goes up to n.
 -- Assumes nothing.
 use Prim.Native.Nat.{_≤_, _-_}
 use native.Mathlib.Omega.{arith}
 use borrow.Author.Needs.{needs}
-use Rattle.run_cases.proofs.chip.hear.Statement.{statement}
-use Rattle.run_cases.proofs.chip.hear.Tie as tie
+use Rattle.run_cases.proofs.hear.Statement.{statement}
+use Rattle.run_cases.proofs.hear.Tie as tie
 
 abbrev Inv-loop : tie.InvT-loop
 Inv-loop x n next₀ counter₀ next counter = counter ≤ n

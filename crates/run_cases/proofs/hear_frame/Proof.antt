@@ -1,10 +1,10 @@
--- `run_cases::chip::hear_frame` is safe and ends: the count goes up to n.
+-- `run_cases::hear_frame` is safe and ends: the count goes up to n.
 -- Assumes nothing.
 use Prim.Native.Nat.{_≤_, _-_}
 use native.Mathlib.Omega.{arith}
 use borrow.Author.Needs.{needs}
-use Rattle.run_cases.proofs.chip.hear_frame.Statement.{statement}
-use Rattle.run_cases.proofs.chip.hear_frame.Tie as tie
+use Rattle.run_cases.proofs.hear_frame.Statement.{statement}
+use Rattle.run_cases.proofs.hear_frame.Tie as tie
 
 abbrev Inv-loop : tie.InvT-loop
 Inv-loop c next₀ f n place₀ next place = place ≤ n
