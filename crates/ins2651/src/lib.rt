@@ -3,7 +3,8 @@
 ghost use mathlib.Core.Path.{_≡_};
 ghost use Prim.Native.Nat.{_≤_};
 ghost use Rattle.line.specs.Sending.{bit};
-ghost use Rattle.ins2651.specs.Shape.{resetDevice};
+ghost use Rattle.ins2651.specs.Shape;
+ghost use Rattle.ins2651.specs.Shape.{resetDevice, refusedRead, refused};
 ghost use Rattle.ins2651.specs.Modes;
 ghost use Rattle.ins2651.specs.Modes.{factorOf, stopOf, formatOf, sendFormat, receiveFormat};
 ghost use Rattle.ins2651.specs.Conditions;
@@ -19,11 +20,13 @@ ghost use Rattle.ins2651.specs.RegisterWrites.{writeHolding, synsWritten
 ghost use Rattle.ins2651.specs.Pinning.{setPins};
 ghost use Rattle.ins2651.specs.Pinning;
 ghost use Rattle.ins2651.specs.Ticks;
-ghost use Rattle.ins2651.specs.Ticks.{transmitTick, receiveTick};
+ghost use Rattle.ins2651.specs.Ticks.{sentBy, transmitTick, receivedBy, receiveTick};
 use line::Format;
 use line::Heard;
+use link::Received;
 use link::ReceiverHalf;
 use link::SenderHalf;
+use link::Sent;
 
 // `accepted` is 1 once a mode 1 was accepted since reset; `modes` and `syns` are the two pointers.
 #[repr(C)]
@@ -284,8 +287,7 @@ fn ready_bits(d: Device) -> u8
 fn status_byte(d: Device) -> u8
     ensures { λ r. ⌜ r ≡ statusByte d ⌝ }
 {
-    let f = d.flags;
-    modem_bits(d) + error_bits(f) + ready_bits(d)
+    modem_bits(d) + error_bits(d.flags) + ready_bits(d)
 }
 
 fn outputs_of(d: Device) -> OutputPins
@@ -357,16 +359,11 @@ fn flags_in_range(f: Flags) -> bool
 pub fn in_range(d: Device) -> bool
     ensures { λ b. ⌜ b ≡ inRange d ⌝ }
 {
-    let registers = d.registers;
-    let pins = d.pins;
-    let sender = d.sender;
-    let receiver = d.receiver;
-    let flags = d.flags;
-    registers_in_range(registers)
-        & pins_in_range(pins)
-        & link::sender_in_range(sender)
-        & link::receiver_in_range(receiver)
-        & flags_in_range(flags)
+    registers_in_range(d.registers)
+        & pins_in_range(d.pins)
+        & link::sender_in_range(d.sender)
+        & link::receiver_in_range(d.receiver)
+        & flags_in_range(d.flags)
 }
 
 fn clear_registers() -> Registers
@@ -426,15 +423,24 @@ fn read_refusal(address: u8) -> u8
     if 3 < address { 1 } else { 0 }
 }
 
+fn refuse_read(n: u8, d: Device) -> Answer
+    ensures { λ r. ⌜ r ≡ refusedRead n d ⌝ }
+{
+    Answer {
+        refusal: n,
+        value: 0,
+        device: d,
+    }
+}
+
 fn read_holding(mut d: Device) -> Answer
     ensures { λ r. ⌜ r ≡ readHolding d ⌝ }
 {
-    let r = d.receiver;
-    let emptied = link::empty(r);
+    let emptied = link::empty(d.receiver);
     d.receiver = emptied;
     Answer {
         refusal: 0,
-        value: r.holding,
+        value: d.receiver.holding,
         device: d,
     }
 }
@@ -506,14 +512,28 @@ pub fn read(d: Device, address: u8) -> Answer
     if n == 0 {
         return read_register(settle(d), address);
     }
-    Answer {
-        refusal: n,
-        value: 0,
+    refuse_read(n, d)
+}
+
+// == writes ==
+
+fn complete(d: Device) -> Outcome
+    ensures { λ r. ⌜ r ≡ Shape.done d ⌝ }
+{
+    Outcome {
+        refusal: 0,
         device: d,
     }
 }
 
-// == writes ==
+fn refuse(n: u8, d: Device) -> Outcome
+    ensures { λ r. ⌜ r ≡ refused n d ⌝ }
+{
+    Outcome {
+        refusal: n,
+        device: d,
+    }
+}
 
 fn mode1_refusal(v: u8) -> u8
     ensures { λ r. ⌜ r ≡ mode1Refusal v ⌝ }
@@ -551,8 +571,7 @@ fn write_refusal(r: Registers, address: u8, v: u8) -> u8
 fn write_holding(mut d: Device, v: u8) -> Device
     ensures { λ r. ⌜ r ≡ writeHolding d v ⌝ }
 {
-    let s = d.sender;
-    let loaded = link::load(s, v);
+    let loaded = link::load(d.sender, v);
     d.sender = loaded;
     d.flags.empty = 0;
     d
@@ -629,10 +648,8 @@ fn receiver_commanded(r: ReceiverHalf, v: u8) -> ReceiverHalf
 fn write_command(mut d: Device, v: u8) -> Device
     ensures { λ r. ⌜ r ≡ writeCommand d v ⌝ }
 {
-    let r = d.receiver;
-    let f = d.flags;
-    let receiver = receiver_commanded(r, v);
-    let flags = flags_commanded(f, v);
+    let receiver = receiver_commanded(d.receiver, v);
+    let flags = flags_commanded(d.flags, v);
     let kept = stored(v);
     d.registers.command = kept;
     d.receiver = receiver;
@@ -643,8 +660,7 @@ fn write_command(mut d: Device, v: u8) -> Device
 fn write_syn(mut d: Device, v: u8) -> Device
     ensures { λ r. ⌜ r ≡ writeSyn d v ⌝ }
 {
-    let r = d.registers;
-    let written = syns_written(r, v);
+    let written = syns_written(d.registers, v);
     d.registers = written;
     d
 }
@@ -652,8 +668,7 @@ fn write_syn(mut d: Device, v: u8) -> Device
 fn write_mode(mut d: Device, v: u8) -> Device
     ensures { λ r. ⌜ r ≡ writeMode d v ⌝ }
 {
-    let r = d.registers;
-    let written = modes_written(r, v);
+    let written = modes_written(d.registers, v);
     d.registers = written;
     d
 }
@@ -678,18 +693,11 @@ pub fn write(given: Device, address: u8, v: u8) -> Outcome
     ensures { λ r. ⌜ r ≡ RegisterWrites.write given address v ⌝ }
 {
     let d = settle(given);
-    let registers = d.registers;
-    let n = write_refusal(registers, address, v);
+    let n = write_refusal(d.registers, address, v);
     if n == 0 {
-        return Outcome {
-            refusal: 0,
-            device: write_register(d, address, v),
-        };
+        return complete(write_register(d, address, v));
     }
-    Outcome {
-        refusal: n,
-        device: given,
-    }
+    refuse(n, given)
 }
 
 // == pins ==
@@ -710,8 +718,7 @@ fn changes(p: Pins, dsr: u8, dcd: u8) -> bool
 fn pinned(mut d: Device, dsr: u8, dcd: u8, cts: u8) -> Device
     ensures { λ r. ⌜ r ≡ Pinning.pinned d dsr dcd cts ⌝ }
 {
-    let before = d.pins;
-    let change = or_set(changes(before, dsr, dcd), d.flags.change);
+    let change = or_set(changes(d.pins, dsr, dcd), d.flags.change);
     let pins = Pins {
         dsr: dsr,
         dcd: dcd,
@@ -728,35 +735,39 @@ pub fn set_pins(d: Device, dsr: u8, dcd: u8, cts: u8) -> Outcome
 {
     let n = pins_refusal(dsr, dcd, cts);
     if n == 0 {
-        return Outcome {
-            refusal: 0,
-            device: pinned(settle(d), dsr, dcd, cts),
-        };
+        return complete(pinned(settle(d), dsr, dcd, cts));
     }
-    Outcome {
-        refusal: n,
-        device: d,
-    }
+    refuse(n, d)
 }
 
 // == ticks ==
 
-// A transmit tick of a device in range; a run of ticks settles its device once.
-pub fn transmit_tick(mut d: Device) -> Ticked
-    ensures { λ r. ⌜ r ≡ transmitTick d ⌝ }
+// The sending half's tick.
+fn sent(d: Device) -> Sent
+    ensures { λ r. ⌜ r ≡ Ticks.sent d ⌝ }
 {
-    let s = d.sender;
-    let registers = d.registers;
-    let sent = link::transmit(s, sending(d), breaking(d), send_format(registers));
-    let empty = or_set(sent.drained & transmitting(d), d.flags.empty);
-    let level = number(sent.level);
-    let half = sent.half;
+    link::transmit(d.sender, sending(d), breaking(d), send_format(d.registers))
+}
+
+// What it leaves, and the empty-mark.
+fn sent_by(mut d: Device, s: Sent) -> Ticked
+    ensures { λ r. ⌜ r ≡ sentBy d s ⌝ }
+{
+    let empty = or_set(s.drained & transmitting(d), d.flags.empty);
+    let half = s.half;
     d.sender = half;
     d.flags.empty = empty;
     Ticked {
-        level: level,
+        level: number(s.level),
         device: d,
     }
+}
+
+// A transmit tick of a device in range; a run of ticks settles its device once.
+pub fn transmit_tick(d: Device) -> Ticked
+    ensures { λ r. ⌜ r ≡ transmitTick d ⌝ }
+{
+    sent_by(d, sent(d))
 }
 
 // A transmit tick: the level sent.
@@ -783,20 +794,30 @@ fn noted(f: Flags, overrun: bool, heard: Heard) -> Flags
     }
 }
 
-// A receive tick of a device in range.
-pub fn receive_tick(mut d: Device, x: bool) -> Device
-    ensures { λ r. ⌜ r ≡ receiveTick d x ⌝ }
+// The receiving half's tick.
+fn received(d: Device, x: bool) -> Received
+    ensures { λ r. ⌜ r ≡ Ticks.received d x ⌝ }
 {
-    let r = d.receiver;
-    let f = d.flags;
-    let registers = d.registers;
-    let received = link::receive(r, receiving(d), receive_format(registers), x);
-    let heard = received.heard;
-    let flags = noted(f, received.overrun, heard);
-    let half = received.half;
+    link::receive(d.receiver, receiving(d), receive_format(d.registers), x)
+}
+
+// What it leaves, and the flags.
+fn received_by(mut d: Device, r: Received) -> Device
+    ensures { λ t. ⌜ t ≡ receivedBy d r ⌝ }
+{
+    let heard = r.heard;
+    let flags = noted(d.flags, r.overrun, heard);
+    let half = r.half;
     d.receiver = half;
     d.flags = flags;
     d
+}
+
+// A receive tick of a device in range.
+pub fn receive_tick(d: Device, x: bool) -> Device
+    ensures { λ r. ⌜ r ≡ receiveTick d x ⌝ }
+{
+    received_by(d, received(d, x))
 }
 
 fn level_refusal(x: u8) -> u8
@@ -811,13 +832,7 @@ pub fn receive(d: Device, x: u8) -> Outcome
 {
     let n = level_refusal(x);
     if n == 0 {
-        return Outcome {
-            refusal: 0,
-            device: receive_tick(settle(d), 0 < x),
-        };
+        return complete(receive_tick(settle(d), 0 < x));
     }
-    Outcome {
-        refusal: n,
-        device: d,
-    }
+    refuse(n, d)
 }
