@@ -1,6 +1,6 @@
 -- What arrives over a run of calls is the reading of the levels given to its receive ticks; and RHR holds the last of it.
 -- Assumes nothing.
-use Prim.Native.Nat.{ℕ, suc, _/_, _%_, _<_}
+use Prim.Native.Nat.{ℕ, suc, _<_}
 use native.Mathlib.Omega.{arith}
 use mathlib.Core.Path.{_≡_, refl, sym, ap, ap₂, subst, _∙_}
 use mathlib.Core.Bool.{Bool, true, false, cond, _&&_}
@@ -37,6 +37,7 @@ use Rattle.ins2651.specs.Rows.{refusal}
 use Rattle.ins2651.specs.Line.{atSample, samples, arrivedIn, lastValue, Listens, Throughout}
 use Rattle.ins2651.proofs.Settled.{settled-is}
 use Rattle.ins2651.proofs.Done.{done-write, done-receive}
+use Rattle.ins2651.proofs.Commands.{receive-stored}
 use Rattle.ins2651.proofs.Formats.{format-in}
 use Rattle.ins2651.proofs.Refused.{refused-unchanged}
 use Rattle.ins2651.proofs.InRange.{next-in}
@@ -53,10 +54,6 @@ pub record SameHearing (r q : ReceiverHalf) : Type 0 where
 same-as : {r q : ReceiverHalf} → q ≡ r → SameHearing r q
 same-as e = record { state = ap (λ (h : ReceiverHalf). h .state) e; format = ap (λ (h : ReceiverHalf). h .format) e; holding = ap (λ (h : ReceiverHalf). h .holding) e }
 
--- a command's bit 2 is stored as it was written
-enable-stored : (v : ℕ) → receiveEnable (stored v) ≡ receiveEnable v
-enable-stored v = let e : stored v / 4 % 2 ≡ v / 4 % 2 = omega arith in ap (λ (k : ℕ). eqb k 1) e
-
 on-so : (a b c : Bool) → (a && b && c) ≡ true → a ≡ true
 on-so a b c e = both a b (both (a && b) c e .0) .0
 
@@ -67,7 +64,7 @@ write-same d address v =
     either Same (eqb address 0) (λ _. same-as refl)
     (either Same (eqb address 1) (λ _. same-as refl)
     (either Same (eqb address 2) (λ _. same-as refl)
-    (λ l. same-as (ap (λ (b : Bool). cond b (d .receiver) (emptied (dropped (d .receiver)))) (sym (enable-stored v) ∙ on-so (receiveEnable (stored v)) (eqb (d .pins .dcd) 0) (on (d .registers .accepted)) l)))))
+    (λ l. same-as (ap (λ (b : Bool). cond b (d .receiver) (emptied (dropped (d .receiver)))) (sym (receive-stored v) ∙ on-so (receiveEnable (stored v)) (eqb (d .pins .dcd) 0) (on (d .registers .accepted)) l)))))
 
 abbrev hasSample : Call → Bool
 hasSample c = atSample c (λ (x : Bool). true) false

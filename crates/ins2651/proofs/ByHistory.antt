@@ -1,6 +1,6 @@
 -- After any run of calls from reset, each status bit is what the history of the run says.
 -- Assumes nothing.
-use Prim.Native.Nat.{ℕ, zero, suc, _/_, _%_, _≤_, _<_}
+use Prim.Native.Nat.{ℕ, zero, suc, _≤_, _<_}
 use native.Mathlib.Omega.{arith}
 use mathlib.Core.Path.{_≡_, refl, sym, ap, ap₂, subst, _∙_}
 use mathlib.Core.Bool.{Bool, true, false, cond, not, _&&_, _||_}
@@ -27,7 +27,7 @@ use Rattle.ins2651.specs.Status.{statusByte}
 use Rattle.ins2651.specs.Ranges.{inRange, settled}
 use Rattle.ins2651.specs.Refusals.{writeRefusal}
 use Rattle.ins2651.specs.RegisterReads.{readRegister}
-use Rattle.ins2651.specs.RegisterWrites.{stored, unless, synsWritten, modesWritten, writeRegister}
+use Rattle.ins2651.specs.RegisterWrites.{unless, synsWritten, modesWritten, writeRegister}
 use Rattle.ins2651.specs.Pinning.{orSet, changes, pinned}
 use Rattle.ins2651.specs.Ticks.{sent, transmitTick, transmit, noted, received, receiveTick}
 use Rattle.ins2651.specs.Runs.{Call, Reset, Read, Write, SetPins, Transmit, Receive, Outputs, next, after, said}
@@ -35,7 +35,8 @@ use Rattle.ins2651.specs.Rows.{refusal}
 use Rattle.ins2651.specs.History.{Happened, plainly, happened, history, dsrLow, dcdLow, unreadBy, framingBy, parityBy, overrunBy, enabledBy, waitingBy, emptyBy, changeBy, statusBy}
 use Rattle.ins2651.proofs.Settled.{settled-is, reset-in}
 use Rattle.ins2651.proofs.Done.{done-read, done-write, done-pins, done-receive}
-use Rattle.ins2651.proofs.Refused.{read-address, write-address, commands-fit, refused-unchanged}
+use Rattle.ins2651.proofs.Commands.{transmit-stored}
+use Rattle.ins2651.proofs.Refused.{read-address, write-address, commands-fit, levels-taken, refused-unchanged}
 use Rattle.ins2651.proofs.InRange.{parts, next-in, after-in}
 
 -- the device shows what happened
@@ -97,10 +98,6 @@ module _ (d : Device) (es : List Happened) (a : Agrees d es) where
   modes-command : (r : Registers) (v : ℕ) → modesWritten r v .command ≡ r .command
   modes-command r v = either (λ (q : Registers). q .command ≡ r .command) (eqb (r .modes) 0) refl refl
 
-  -- bit 0 is stored as it was written
-  enable-stored : (v : ℕ) → transmitEnable (stored v) ≡ transmitEnable v
-  enable-stored v = let e : stored v / 1 % 2 ≡ v / 1 % 2 = omega arith in ap (λ (k : ℕ). eqb k 1) e
-
   receive-off : (v : ℕ) (t : Bool) → on (cond t (d .receiver) (emptied (dropped (d .receiver))) .unread) ≡ cond (not t) false (unreadBy es)
   receive-off v true = a .unread
   receive-off v false = refl
@@ -121,7 +118,7 @@ module _ (d : Device) (es : List Happened) (a : Agrees d es) where
         empty = cleared-or (not (transmitEnable v)) (not (transmitEnable v)) (d .flags .empty) (emptyBy es) refl (a .empty);
         change = a .change;
         unread = receive-off v (receiveEnable v);
-        enabled = enable-stored v ∙ itself (transmitEnable v);
+        enabled = transmit-stored v ∙ itself (transmitEnable v);
         waiting = a .waiting;
       }
   write-shown (suc (suc (suc (suc address)))) v l k = absurd (omega arith)
@@ -184,10 +181,6 @@ module _ (d : Device) (es : List Happened) (a : Agrees d es) where
 
 -- == any call ==
 
-low-enough : (t : Bool) → _≡_ {A = ℕ} (cond t 0 2) 0 → t ≡ true
-low-enough true e = refl
-low-enough false e = absurd (omega arith)
-
 module _ (d : Device) (h : inRange d ≡ true) (es : List Happened) (a : Agrees d es) where
   abbrev Shown : Call → Type 0
   Shown c = Agrees (next d c) (happened d c ∷ es)
@@ -209,7 +202,7 @@ module _ (d : Device) (h : inRange d ≡ true) (es : List Happened) (a : Agrees 
   done-shown (SetPins dsr dcd cts) n =
       let q = both (leb (d .pins .dsr) 1 && leb (d .pins .dcd) 1) (leb (d .pins .cts) 1) (parts d h .pins) in
       let r = both (leb (d .pins .dsr) 1) (leb (d .pins .dcd) 1) (q .0) in
-      let x = both (leb dsr 1 && leb dcd 1) (leb cts 1) (low-enough (leb dsr 1 && leb dcd 1 && leb cts 1) n) in
+      let x = both (leb dsr 1 && leb dcd 1) (leb cts 1) (levels-taken (leb dsr 1 && leb dcd 1 && leb cts 1) n) in
       let y = both (leb dsr 1) (leb dcd 1) (x .0) in
       subst (λ (o : Outcome). Agrees (o .device) (plainly (SetPins dsr dcd cts) ∷ es)) (sym (done-pins d dsr dcd cts n))
       (subst (λ (e : Device). Agrees (pinned e dsr dcd cts) (plainly (SetPins dsr dcd cts) ∷ es)) (sym (settled-is d h))

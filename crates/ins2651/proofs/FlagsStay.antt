@@ -11,7 +11,7 @@ use Rattle.line.specs.declared.Heard.{Heard}
 use Rattle.line.specs.declared.Heard.the-variants.{Nothing, Character}
 use Rattle.line.specs.Sending.{bit, on}
 use Rattle.line.proofs.Table.{both}
-use Rattle.link.proofs.Choice.{either, each}
+use Rattle.link.proofs.Choice.{either, each, not-so}
 use Rattle.ins2651.specs.declared.Flags.{Flags}
 use Rattle.ins2651.specs.declared.Device.{Device}
 use Rattle.ins2651.specs.declared.Outcome.{Outcome}
@@ -90,10 +90,6 @@ flags-stay-once d c h k = go (eqb (refusal d c) 0) refl
     go : (b : Bool) → eqb (refusal d c) 0 ≡ b → Stay (d .flags) (next d c .flags)
     go true e = subst (λ (s : Device). Stay (s .flags) (next d c .flags)) (settled-is d h) (done-stays d c (eqb-true _ _ e) k h)
     go false e = subst (λ (s : Device). Stay (d .flags) (s .flags)) (sym (refused-unchanged d c (eqb-false _ _ e) .device)) (stay (d .flags))
-
-not-so : (b : Bool) → not b ≡ true → b ≡ false
-not-so true e = sym e
-not-so false e = refl
 
 -- a run of them
 pub flags-stay : (d : Device) (cs : List Call) → inRange d ≡ true → nowhere clearsErrors cs ≡ true → Stay (d .flags) (after d cs .flags)

@@ -19,7 +19,7 @@ use Rattle.link.specs.declared.SenderHalf.{SenderHalf}
 use Rattle.link.specs.declared.Sent.{Sent}
 use Rattle.link.specs.Parts.{noFrame, loaded}
 use Rattle.link.specs.Transmitting.{frameNext, beginTick}
-use Rattle.link.proofs.Choice.{either}
+use Rattle.link.proofs.Choice.{either, not-so}
 use Rattle.link.proofs.Halves.{frameOf, transmit-under, transmit-begins, length-bound, frame-goes-on, frame-ends}
 use Rattle.ins2651.specs.declared.Device.{Device}
 use Rattle.ins2651.specs.declared.Outcome.{Outcome}
@@ -110,10 +110,6 @@ frameBefore f c i = cond (ltb i (frameLength f)) (frameOf f c i) noFrame
 pub record Whole (f : Format) (c i : ℕ) (d : Device) (cs : List Call) : Type 0 where
   pub sends : levelsSent d cs ≡ map bit (listed (level f c) i (transmits cs))
   pub leaves : after d cs .sender .frame ≡ frameBefore f c (i + transmits cs)
-
-not-so : (b : Bool) → not b ≡ true → b ≡ false
-not-so true e = sym e
-not-so false e = refl
 
 module _ (f : Format) (c : ℕ) (fits : frameLength f ≤ 768) where
   frame-next : (i : ℕ) → i < frameLength f → frameNext (frameOf f c i) ≡ frameBefore f c (suc i)

@@ -35,8 +35,9 @@ use Rattle.ins2651.specs.Runs.{Call, Reset, Read, Write, SetPins, Transm
 use Rattle.ins2651.specs.Rows.{refusal}
 use Rattle.ins2651.proofs.Settled.{settled-is, reset-in}
 use Rattle.ins2651.proofs.Done.{done-read, done-write, done-pins, done-receive}
+use Rattle.ins2651.proofs.Commands.{bit4-gone}
 use Rattle.ins2651.proofs.Formats.{format-in}
-use Rattle.ins2651.proofs.Refused.{address-is-3, commands-fit, mode-accepted, refused-unchanged}
+use Rattle.ins2651.proofs.Refused.{address-is-3, commands-fit, mode-accepted, levels-taken, refused-unchanged}
 
 -- == the parts of a device ==
 
@@ -152,9 +153,7 @@ module _ (d : Device) (p : In d) where
       accepted false false e = refl
 
   command-in : (v : ℕ) → v < 64 → commandInRange (stored v) ≡ true
-  command-in v h =
-      let e : stored v / 16 % 2 ≡ 0 = omega arith in
-      all (lt-ltb (stored v) 64 (omega arith)) (ap (λ (k : ℕ). not (eqb k 1)) e)
+  command-in v h = all (lt-ltb (stored v) 64 (omega arith)) (ap not (bit4-gone v))
 
   commanded-in : (v : ℕ) → v < 64 → In (writeRegister d 3 v)
   unfolding writeRegister
@@ -172,15 +171,11 @@ module _ (d : Device) (p : In d) where
   pins-in dsr dcd cts h =
       record {
         registers = p .registers;
-        pins = low (leb dsr 1 && leb dcd 1 && leb cts 1) h;
+        pins = levels-taken (leb dsr 1 && leb dcd 1 && leb cts 1) h;
         sender = p .sender;
         receiver = p .receiver;
         flags = change-in (orSet (changes (d .pins) dsr dcd) (d .flags .change)) (set-in (changes (d .pins) dsr dcd) (d .flags .change) (f .change));
       }
-    where
-      low : (t : Bool) → _≡_ {A = ℕ} (cond t 0 2) 0 → t ≡ true
-      low true e = refl
-      low false e = absurd (omega arith)
 
   transmit-tick-in : In (transmitTick d .device)
   unfolding transmitTick

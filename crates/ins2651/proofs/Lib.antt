@@ -1,6 +1,7 @@
 pub mod Branches
 pub mod Settled
 pub mod Done
+pub mod Commands
 pub mod Formats
 pub mod Refused
 pub mod InRange

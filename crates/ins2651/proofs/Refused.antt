@@ -101,6 +101,11 @@ module _ (r : Registers) where
   unfolding writeRefusal
   mode-accepted v h = h
 
+-- pins and levels that are not refused are levels
+pub levels-taken : (t : Bool) → _≡_ {A = ℕ} (cond t 0 2) 0 → t ≡ true
+levels-taken true e = refl
+levels-taken false e = absurd (omega arith)
+
 -- == what is answered ==
 
 -- every register read is done

@@ -1,7 +1,6 @@
 -- Rules of document 01 that are easily lost, each as a law of the calls.
 -- Assumes nothing.
-use Prim.Native.Nat.{ℕ, _-_, _/_, _%_, _<_}
-use native.Mathlib.Omega.{arith}
+use Prim.Native.Nat.{ℕ, _-_, _<_}
 use mathlib.Core.Path.{_≡_, refl, sym, ap, _∙_}
 use mathlib.Core.Bool.{Bool, true, false, cond, _&&_}
 use mathlib.Core.List.{[], _∷_}
@@ -28,6 +27,7 @@ use Rattle.ins2651.specs.Runs.{Read, Write, Transmit, Receive, next, sai
 use Rattle.ins2651.specs.Rows.{refusal}
 use Rattle.ins2651.proofs.Settled.{settled-is}
 use Rattle.ins2651.proofs.Done.{done-read, done-write, done-receive}
+use Rattle.ins2651.proofs.Commands.{bit4-gone}
 use Rattle.ins2651.proofs.InRange.{next-in}
 
 -- == clocks ==
@@ -102,12 +102,11 @@ pub command-reads-back : (d : Device) (v : ℕ) → inRange d ≡ true → v < 6
 unfolding readRegister writeRegister
 command-reads-back d v h l =
     let e : settled (next d (Write 3 v)) ≡ writeRegister d 3 v = settled-is (next d (Write 3 v)) (next-in d (Write 3 v) h) ∙ commanded d v h l in
-    let z : stored v / 16 % 2 ≡ 0 = omega arith in
     record {
       value =
           ap (λ (o : Answer). record { refusal = o .refusal; values = o .value ∷ [] }) (done-read (next d (Write 3 v)) 3 refl)
           ∙ ap (λ (s : Device). record { refusal = 0; values = s .registers .command ∷ [] }) e;
-      bit4 = ap (λ (k : ℕ). eqb k 1) z;
+      bit4 = bit4-gone v;
     }
 
 -- RHR read again gives the same again, read or not

@@ -1,4 +1,5 @@
 pub mod Table
+pub mod Bits
 pub mod Bytes
 pub mod Parts
 pub mod Branches

@@ -1,7 +1,7 @@
 -- Laws of choices and of several tests together.
 -- Assumes nothing.
-use mathlib.Core.Path.{_≡_, refl}
-use mathlib.Core.Bool.{Bool, true, false, cond, _&&_}
+use mathlib.Core.Path.{_≡_, refl, sym}
+use mathlib.Core.Bool.{Bool, true, false, cond, not, _&&_}
 
 -- what holds of both cases of a choice holds of the choice
 pub either : {X : Type 0} (P : X → Type 0) (t : Bool) {x y : X} → P x → P y → P (cond t x y)
@@ -15,3 +15,7 @@ each P false p q = q refl
 
 pub all : {a b : Bool} → a ≡ true → b ≡ true → (a && b) ≡ true
 all p q = rw (p, q)
+
+pub not-so : (b : Bool) → not b ≡ true → b ≡ false
+not-so true e = sym e
+not-so false e = refl

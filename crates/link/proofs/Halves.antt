@@ -12,9 +12,10 @@ use Rattle.line.specs.declared.Arrival.{Arrival}
 use Rattle.line.specs.declared.Heard.{Heard}
 use Rattle.line.specs.declared.Heard.the-variants.{Nothing, Character}
 use Rattle.line.specs.declared.Sampled.{Sampled}
-use Rattle.line.specs.Sending.{bit, on, parityBits, frameLength}
+use Rattle.line.specs.Sending.{on, parityBits, frameLength}
 use Rattle.line.specs.Range.{Bounds}
 use Rattle.line.specs.Receiving.{sample}
+use Rattle.line.proofs.Bits.{at-most-one}
 use Rattle.link.specs.declared.Frame.{Frame}
 use Rattle.link.specs.declared.SenderHalf.{SenderHalf}
 use Rattle.link.specs.declared.ReceiverHalf.{ReceiverHalf}
@@ -53,14 +54,10 @@ module _ (s : SenderHalf) (ready broken : Bool) (f : Format) where
       (either P (on (s .guard)) {x = markTick s} refl
       (either P (ready && on (s .full)) {x = beginTick s f} {y = markTick s} refl refl)))
 
-one-at-most : (x : Bool) → bit x ≤ 1
-one-at-most true = omega arith
-one-at-most false = omega arith
-
 -- L is at most 768
 pub length-bound : (f : Format) → Bounds f → frameLength f ≤ 768
 length-bound f b =
-    let l : suc (f .length + parityBits f) ≤ 10 = omega (arith, b .short, one-at-most (on (f .parity))) in
+    let l : suc (f .length + parityBits f) ≤ 10 = omega (arith, b .short, at-most-one (on (f .parity))) in
     let m : f .factor * suc (f .length + parityBits f) ≤ 64 * 10 = mul-le-mul (b .few) l in
     omega (arith, m, b .ends, b .few)
 

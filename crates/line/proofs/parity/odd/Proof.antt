@@ -1,8 +1,8 @@
 -- `line::parity::odd` meets its contract. The table's rule is tested over all 256 entries at once, and carried to each byte by one law.
 -- Assumes nothing.
-use mathlib.Core.Path.{_≡_, refl, ap, _∙_}
+use mathlib.Core.Path.{_≡_, ap, _∙_}
 use mathlib.Core.List.{List}
-use mathlib.Core.Bool.{Bool, true, false}
+use mathlib.Core.Bool.{Bool, true}
 use Prim.Native.Nat.{ℕ, _<_}
 use native.Mathlib.Nat.{zero-add}
 use native.Mathlib.Omega.{arith}
@@ -11,6 +11,7 @@ use lib.ListN.{length, getD}
 use borrow.Author.Needs.{needs}
 use borrow.Author.Tests.{eqb-true}
 use Rattle.line.specs.Sending.{bit, oddOnes}
+use Rattle.line.proofs.Bits.{is-one}
 use Rattle.line.proofs.Table.{every, entry}
 use Rattle.line.proofs.parity.odd.Statement.{statement}
 use Rattle.line.proofs.parity.odd.Tie as tie
@@ -18,10 +19,6 @@ use Rattle.line.proofs.parity.odd.Tie as tie
 -- entry c is 1 where c has an odd number of ones, and 0 elsewhere
 right : ℕ → ℕ → Bool
 right c x = eqb x (bit (oddOnes 8 c))
-
-is-one : (b : Bool) → eqb (bit b) 1 ≡ b
-is-one true = refl
-is-one false = refl
 
 -- the rule at each byte, from the test over the whole table
 ruled : (t : List ℕ) (c : ℕ) → c < 256 → length t ≡ 256 → every right 0 t ≡ true → eqb (getD t c 0) 1 ≡ oddOnes 8 c
