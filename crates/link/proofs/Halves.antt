@@ -130,9 +130,6 @@ receive-under r f x u = ap (λ (b : Bool). hear r (cond b (r .format) f) x) u
 abbrev pub Tuned : Format → ReceiverHalf → Type 0
 Tuned f r = formatFor r f ≡ f
 
-pub tuned-idle : (f : Format) (r : ReceiverHalf) → underWay (r .state) ≡ false → Tuned f r
-tuned-idle f r e = rw e
-
 take-state : (r : ReceiverHalf) (h : Heard) → take r h .half .state ≡ r .state
 take-state r Nothing = refl
 take-state r (Character a) = refl
