@@ -1,0 +1,125 @@
+-- Runs of joined ticks: a tick keeps the ranges, so that a run need check them only once.
+-- Assumes nothing.
+use Prim.Native.Nat.{ℕ, zero, suc, _+_, _-_, _<_, _≤_}
+use native.Mathlib.Nat.{zero-add, suc-add}
+use native.Mathlib.Omega.{arith}
+use mathlib.Core.Path.{_≡_, refl, ap, ap₂, sym, subst, _∙_}
+use mathlib.Core.Bool.{Bool, true, false}
+use lib.Dec.{leb}
+use Rattle.line.specs.Sending.{bit, on}
+use Rattle.ins2651.specs.declared.Device.{Device}
+use Rattle.ins2651.specs.declared.Outcome.{Outcome}
+use Rattle.ins2651.specs.declared.Ticked.{Ticked}
+use Rattle.ins2651.specs.Ranges.{inRange, settled}
+use Rattle.ins2651.specs.Refusals.{levelRefusal}
+use Rattle.ins2651.specs.Ticks.{sent, transmitTick, transmit, receiveTick, receive}
+use Rattle.ins2651.specs.Runs.{Transmit, Receive}
+use Rattle.ins2651.proofs.Settled.{settled-is, settled-out, reset-in}
+use Rattle.ins2651.proofs.Done.{done-receive}
+use Rattle.ins2651.proofs.InRange.{next-in}
+use Rattle.joined.specs.declared.Pair.{Pair}
+use Rattle.joined.specs.declared.Joined.{Joined}
+use Rattle.joined.specs.Joining.{settledPair, exchange, joinedTick, joinedTicks, tick, ticks}
+
+-- == ranges ==
+
+pub settled-in : (d : Device) → inRange (settled d) ≡ true
+settled-in d = go (inRange d) refl
+  where
+    go : (b : Bool) → inRange d ≡ b → inRange (settled d) ≡ true
+    go true h = ap inRange (settled-is d h) ∙ h
+    go false h = ap inRange (settled-out d h) ∙ reset-in
+
+level-refusal : (x : Bool) → levelRefusal (bit x) ≡ 0
+level-refusal true = refl
+level-refusal false = refl
+
+on-bit : (x : Bool) → on (bit x) ≡ x
+on-bit true = refl
+on-bit false = refl
+
+pub transmit-tick-in : (d : Device) → inRange d ≡ true → inRange (transmitTick d .device) ≡ true
+unfolding transmit
+transmit-tick-in d h = ap (λ (e : Device). inRange (transmitTick e .device)) (sym (settled-is d h)) ∙ next-in d Transmit h
+
+-- the receive call of a device in range
+received-in : (d : Device) (x : Bool) → inRange d ≡ true → receive d (bit x) .device ≡ receiveTick d (on (bit x))
+received-in d x h =
+    ap (λ (o : Outcome). o .device) (done-receive d (bit x) (level-refusal x)) ∙ ap (λ (e : Device). receiveTick e (on (bit x))) (settled-is d h)
+
+pub receive-tick-in : (d : Device) (x : Bool) → inRange d ≡ true → inRange (receiveTick d x) ≡ true
+receive-tick-in d x h = ap (λ (y : Bool). inRange (receiveTick d y)) (sym (on-bit x)) ∙ ap inRange (sym (received-in d x h)) ∙ next-in d (Receive (bit x)) h
+
+-- both devices are in range
+pub record BothIn (p : Pair) : Type 0 where
+  pub a : inRange (p .a) ≡ true
+  pub b : inRange (p .b) ≡ true
+
+settled-both : (p : Pair) → BothIn (settledPair p)
+settled-both p = record { a = settled-in (p .a); b = settled-in (p .b) }
+
+settled-pair : (p : Pair) → BothIn p → settledPair p ≡ p
+settled-pair p h = ap₂ (λ (a b : Device). record { a = a; b = b }) (settled-is (p .a) (h .a)) (settled-is (p .b) (h .b))
+
+joined-in : (p : Pair) → BothIn p → BothIn (joinedTick p .pair)
+unfolding joinedTick
+joined-in p h =
+    record {
+      a = receive-tick-in (transmitTick (p .a) .device) (on (transmitTick (p .b) .level)) (transmit-tick-in (p .a) (h .a));
+      b = receive-tick-in (transmitTick (p .b) .device) (on (transmitTick (p .a) .level)) (transmit-tick-in (p .b) (h .b));
+    }
+
+-- == one tick ==
+
+-- one end of the joined tick, by the chip's calls and on devices in range
+end-is : (d e : Device) → receive (transmit d .device) (transmit e .level) .device
+    ≡ receiveTick (transmitTick (settled d) .device) (on (transmitTick (settled e) .level))
+unfolding transmit transmitTick
+end-is d e = received-in (transmitTick (settled d) .device) (sent (settled e) .level) (transmit-tick-in (settled d) (settled-in d))
+
+pub tick-is : (p : Pair) → tick p ≡ joinedTick (settledPair p)
+unfolding tick joinedTick transmit
+tick-is p =
+    ap₂ (λ (a b : Device). record { pair = record { a = a; b = b }; a = transmit (p .a) .level; b = transmit (p .b) .level })
+    (end-is (p .a) (p .b)) (end-is (p .b) (p .a))
+
+-- the pair the other way round
+abbrev pub mirror : Pair → Pair
+mirror p = record { a = p .b; b = p .a }
+
+abbrev pub mirrored : Joined → Joined
+mirrored o = record { pair = mirror (o .pair); a = o .b; b = o .a }
+
+-- neither end comes first
+pub tick-mirrors : (p : Pair) → tick (mirror p) ≡ mirrored (tick p)
+unfolding tick
+tick-mirrors p = refl
+
+-- == many ==
+
+-- a run of m + n is a run of n after a run of m
+pub ticks-add : (m n : ℕ) (p : Pair) → ticks (m + n) p ≡ ticks n (ticks m p)
+ticks-add zero n p = rw zero-add
+ticks-add (suc m) n p = rw suc-add (ticks-add m n (tick p .pair))
+
+-- of a pair in range
+in-range-ticks : (n : ℕ) (p : Pair) → BothIn p → ticks n p ≡ joinedTicks n p
+in-range-ticks zero p h = refl
+in-range-ticks (suc n) p h =
+    ap (λ (o : Joined). ticks n (o .pair)) (tick-is p ∙ ap joinedTick (settled-pair p h)) ∙ in-range-ticks n (joinedTick p .pair) (joined-in p h)
+
+-- of any pair: a run that is not empty settles it first
+pub settled-ticks : (n : ℕ) (p : Pair) → 0 < n → joinedTicks n (settledPair p) ≡ ticks n p
+settled-ticks zero p h = absurd (omega arith)
+settled-ticks (suc n) p h =
+    sym (ap (λ (o : Joined). ticks n (o .pair)) (tick-is p) ∙ in-range-ticks n (joinedTick (settledPair p) .pair) (joined-in (settledPair p) (settled-both p)))
+
+-- == the loop ==
+
+pub one-less : (k : ℕ) (p : Pair) → 0 < k → joinedTicks k p ≡ joinedTicks (k - 1) (joinedTick p .pair)
+one-less zero p h = absurd (omega arith)
+one-less (suc k) p h = ap (λ (m : ℕ). joinedTicks m (joinedTick p .pair)) (let e : k ≡ suc k - 1 = omega arith in e)
+
+pub none-left : (k : ℕ) (p : Pair) → k ≤ 0 → joinedTicks k p ≡ p
+none-left zero p h = refl
+none-left (suc k) p h = absurd (omega arith)

@@ -1,0 +1,23 @@
+-- `joined::run` meets its contract: an empty run leaves the pair as given, any other runs the pair settled.
+-- Assumes nothing.
+use native.Mathlib.Omega.{arith}
+use mathlib.Core.Path.{_≡_, ap, sym, _∙_}
+use Prim.Native.Nat.{ℕ}
+use borrow.Author.Needs.{needs}
+use Rattle.joined.specs.declared.Pair.{Pair}
+use Rattle.joined.specs.Joining.{ticks, joinedTicks}
+use Rattle.joined.proofs.Runs.{settled-ticks}
+use Rattle.joined.proofs.run.Statement.{statement}
+use Rattle.joined.proofs.run.Tie as tie
+
+returns : tie.Need-returns
+returns c = sym (ap (λ (k : ℕ). ticks k (c .before .args .p)) (c .if1 .taken))
+
+returns-2 : tie.Need-returns-2
+returns-2 c =
+    c .ticks-on .ensures
+    ∙ ap (joinedTicks (c .before .before .before .args .n)) (c .before .settle .ensures)
+    ∙ settled-ticks (c .before .before .before .args .n) (c .before .before .before .args .p) (omega (arith, c .before .before .if1 .left))
+
+pub run-spec : {M : Type 1} → statement M
+run-spec = tie.close (tie.spec returns (λ c κs. search needs) (λ c κs. search needs) returns-2)

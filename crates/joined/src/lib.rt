@@ -1,0 +1,92 @@
+// Two devices joined by a line: document 01, "Receiving, by receive ticks", on joined ticks.
+// Every call takes any number in any field, and none is refused. A device out of range is taken as one just reset.
+ghost use mathlib.Core.Path.{_≡_};
+ghost use mathlib.Core.Bool.{Bool};
+ghost use Rattle.line.specs.Sending.{on};
+ghost use Rattle.ins2651.specs.Ticks.{receiveTick};
+ghost use Rattle.joined.specs.Joining;
+ghost use Rattle.joined.specs.Joining.{settledPair, joinedTick, ticks};
+use ins2651::Device;
+use ins2651::Ticked;
+
+// The device `a` at one end of the line and `b` at the other.
+#[repr(C)]
+pub struct Pair {
+    pub a: Device,
+    pub b: Device,
+}
+
+// What a joined tick answers: the pair after it, and the level that each device sent.
+#[repr(C)]
+pub struct Joined {
+    pub pair: Pair,
+    pub a: u8,
+    pub b: u8,
+}
+
+fn settle(p: Pair) -> Pair
+    ensures { λ r. ⌜ r ≡ settledPair p ⌝ }
+{
+    Pair {
+        a: ins2651::settle(p.a),
+        b: ins2651::settle(p.b),
+    }
+}
+
+// The receive tick of a device after its own transmit tick: it takes the other's level.
+fn hear(own: Ticked, other: u8) -> Device
+    ensures { λ r. ⌜ r ≡ receiveTick (own .device) (on other) ⌝ }
+{
+    ins2651::receive_tick(own.device, 0 < other)
+}
+
+// What both transmit ticks lead to.
+fn exchange(a: Ticked, b: Ticked) -> Joined
+    ensures { λ r. ⌜ r ≡ Joining.exchange a b ⌝ }
+{
+    Joined {
+        pair: Pair {
+            a: hear(a, b.level),
+            b: hear(b, a.level),
+        },
+        a: a.level,
+        b: b.level,
+    }
+}
+
+// The tick of a pair in range.
+fn joined_tick(p: Pair) -> Joined
+    ensures { λ r. ⌜ r ≡ joinedTick p ⌝ }
+{
+    exchange(ins2651::transmit_tick(p.a), ins2651::transmit_tick(p.b))
+}
+
+// A joined tick: both transmit ticks, then each receiver takes the other's level.
+pub fn tick(p: Pair) -> Joined
+    ensures { λ r. ⌜ r ≡ Joining.tick p ⌝ }
+{
+    joined_tick(settle(p))
+}
+
+// n joined ticks of a pair in range.
+fn ticks_on(p: Pair, n: u16) -> Pair
+    ensures { λ r. ⌜ r ≡ Joining.joinedTicks n p ⌝ }
+{
+    let mut pair = p;
+    let mut left = n;
+    while 0 < left {
+        pair = joined_tick(pair).pair;
+        left = left - 1;
+    }
+    pair
+}
+
+// n joined ticks, one after another; the ranges are checked once.
+pub fn run(p: Pair, n: u16) -> Pair
+    ensures { λ r. ⌜ r ≡ ticks n p ⌝ }
+{
+    if n == 0 {
+        return p;
+    }
+    ticks_on(settle(p), n)
+}
