@@ -1,1 +1,3 @@
 pub mod Joining
+pub mod Bench
+pub mod Demand3
