@@ -9,3 +9,4 @@ pub mod Samples
 pub mod Received
 pub mod ReadBack
 pub mod Bench
+pub mod Flight

@@ -110,17 +110,18 @@ module _ (f : Format) (c : ℕ) (g : ℕ → Bool) (pos : 0 < f .factor) (byte :
 
 -- == a frame after a mark ==
 
+-- the looks see a frame of their own format
+pub frame-seen : (f : Format) (c : ℕ) → 0 < f .factor → Sees f c (level f c)
+frame-seen f c pos =
+    record {
+      edge = ap (levelOf f c) (zero-div (f .factor));
+      looks = λ m h. ap (levelOf f c) (in-bit (f .factor) (half f) m (omega arith));
+    }
+
 module _ (f : Format) (c : ℕ) (rest : List Bool) (pos : 0 < f .factor) (stops : half f < f .stop) (byte : c < 256) where
   -- the ticks of the stop after its sample
   abbrev tail : ℕ
   tail = f .stop - suc (half f)
-
-  frame-seen : Sees f c (level f c)
-  frame-seen =
-      record {
-        edge = ap (levelOf f c) (zero-div (f .factor));
-        looks = λ m h. ap (levelOf f c) (in-bit (f .factor) (half f) m (omega arith));
-      }
 
   parts : frame f c ++ rest ≡ listed (level f c) 0 (suc (stopSample f)) ++ (replicate tail true ++ rest)
   parts =
@@ -144,7 +145,7 @@ module _ (f : Format) (c : ℕ) (rest : List Bool) (pos : 0 < f .factor) (stops 
   frame-read =
       after-mark (frame f c ++ rest)
       ∙ ap (arrivals f searching 1) parts
-      ∙ seen-arrives f c (level f c) pos byte frame-seen (replicate tail true ++ rest) 1
+      ∙ seen-arrives f c (level f c) pos byte (frame-seen f c pos) (replicate tail true ++ rest) 1
       ∙ ap₂ (λ (k : ℕ) (r : List Arrived). delivered f c k ∷ r)
       (let e : 1 + suc (stopSample f) ≡ 2 + stopSample f = omega arith in e)
       (tail-passes (1 + suc (stopSample f))
