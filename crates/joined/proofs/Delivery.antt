@@ -26,16 +26,14 @@ use Rattle.link.specs.declared.SenderHalf.{SenderHalf}
 use Rattle.link.specs.declared.ReceiverHalf.{ReceiverHalf}
 use Rattle.link.specs.declared.Sent.{Sent}
 use Rattle.link.specs.declared.Received.{Received}
-use Rattle.link.specs.Parts.{noFormat, noFrame, loaded, emptied}
+use Rattle.link.specs.Parts.{noFormat, noFrame, idleSender, loaded, emptied}
 use Rattle.link.specs.Transmitting.{frameNext, frameTick, transmit}
 use Rattle.link.specs.Hearing.{underWay, formatFor, stepped, holds, arrives, taken, receive}
 use Rattle.link.proofs.Halves.{transmit-under, length-bound, frameOf, frame-goes-on, frame-ends, Tuned, receive-is}
-use Rattle.joined.specs.Bench.{Entry, Way, logWrite, logArrival, logRead}
-use Rattle.joined.specs.Demand3.{latest, over, Answers, Answered, one, Delivered, due, values, Fetched}
-
--- an arrival with a wrong parity or a stop of 0
-abbrev pub faulty : Arrival → Bool
-faulty a = a .parity || a .framing
+use Rattle.joined.specs.Bench.{Entry, Way, nothingYet, logWrite, logArrival, logRead}
+use Rattle.joined.specs.Demand3
+use Rattle.joined.specs.Demand3.{latest, over, Answers, Answered, none, one, Delivered, due, values, Fetched, FirstWrites}
+use Rattle.joined.proofs.Sides.{faulty}
 
 -- a character that is read, or not: what the receiving half holds, what came and what was read
 pub data Held : ℕ → ℕ → List Entry → List ℕ → Type 0 where
@@ -50,8 +48,18 @@ not-twice : {X : Type 0} (u : Bool) (x y : X) → cond (not u && u) x y ≡ y
 not-twice true x y = refl
 not-twice false x y = refl
 
--- a sender in the format f and a receiver in one that is alike
-module _ (f g : Format) (bounds : Bounds f) (alike : Alike f g) where
+-- a sender in the format f, and a receiver in a format g that is alike
+pub record Fit (f g : Format) : Type 0 where
+  pub bounds : Bounds f
+  pub alike : Alike f g
+
+module _ {f g : Format} (fit : Fit f g) where
+  bounds : Bounds f
+  bounds = fit .bounds
+
+  alike : Alike f g
+  alike = fit .alike
+
   abbrev L : ℕ
   L = frameLength f
 
@@ -155,7 +163,7 @@ module _ (f g : Format) (bounds : Bounds f) (alike : Alike f g) where
         subst (λ (q : Received). Flows o r q now w) (sym (receive-is g r x tuned ∙ ap (taken r g) e))
         (record {
           flow = subst (λ (l : Way). Flow o (stepped r g st) (suc now) l) (sym (not-twice (on (r .unread)) (logArrival (suc now) (r .holding) w) w))
-            (record { begun = begun; come = come; waits = ws; phase = ph; answered = an; spaced = sp; guard = gd; tuned = stepped-tuned r st; held = held });
+              (record { begun = begun; come = come; waits = ws; phase = ph; answered = an; spaced = sp; guard = gd; tuned = stepped-tuned r st; held = held });
           sound = refl;
           no-overrun = refl;
         })
@@ -170,18 +178,18 @@ module _ (f g : Format) (bounds : Bounds f) (alike : Alike f g) where
         subst (λ (q : Received). Flows o r q now w) (sym (receive-is g r x tuned ∙ ap (taken r g) e))
         (record {
           flow = subst (λ (l : Way). Flow o (holds (stepped r g searching) v) (suc now) l)
-            (sym (ap (λ (k : ℕ). cond (not (on k) && true) (logArrival (suc now) v w) w) u))
-            (record {
-              begun = begun;
-              come = come;
-              waits = ws;
-              phase = ph;
-              answered = an;
-              spaced = sp;
-              guard = gd;
-              tuned = stepped-tuned r searching;
-              held = subst (λ (l : List ℕ). Held 1 v (record { at = suc now; value = v } ∷ w .came) l) (sym rd) but-one;
-            });
+              (sym (ap (λ (k : ℕ). cond (not (on k) && true) (logArrival (suc now) v w) w) u))
+              (record {
+                begun = begun;
+                come = come;
+                waits = ws;
+                phase = ph;
+                answered = an;
+                spaced = sp;
+                guard = gd;
+                tuned = stepped-tuned r searching;
+                held = subst (λ (l : List ℕ). Held 1 v (record { at = suc now; value = v } ∷ w .came) l) (sym rd) but-one;
+              });
           sound = refl;
           no-overrun = ap on u;
         })
@@ -300,10 +308,109 @@ module _ (f g : Format) (bounds : Bounds f) (alike : Alike f g) where
         (advance now (omega arith) (subst (λ (k : List Entry). Waits now u v k xs) we ws)) an sp)
 
   -- a tick of both halves, where what has come is read in time
-  pub tick-flows : (s : SenderHalf) (r : ReceiverHalf) (now : ℕ) (w : Way) → Flow s r now w → (on (r .unread) ≡ true → suc now < latest (w .came) + L)
+  pub tick-flows : {s : SenderHalf} {r : ReceiverHalf} {now : ℕ} {w : Way} → Flow s r now w → (on (r .unread) ≡ true → suc now < latest (w .came) + L)
       → Flows (transmit s true false f .half) r (receive r true g (transmit s true false f .level)) now w
-  tick-flows s r now w h in-time =
+  tick-flows {s = s} {r = r} {now = now} {w = w} h in-time =
       let e : record { frame = s .frame; holding = s .holding; full = s .full; guard = 0 } ≡ s =
       ap (λ (k : ℕ). record { frame = s .frame; holding = s .holding; full = s .full; guard = k }) (sym (h .guard)) in
       subst (λ (m : SenderHalf). Flows (transmit m true false f .half) r (receive r true g (transmit m true false f .level)) now w) e
       (tick-cases now w r (h .tuned) (h .held) in-time refl refl (h .phase) (h .waits) (h .answered) (h .spaced))
+
+  -- == a write and a read ==
+
+  -- the frames that have begun are over before L more ticks
+  over-soon : {now : ℕ} {fr : Frame} {st : Receiver} {begun come : List Entry} → Phase now fr st begun come → over L begun < now + L
+  over-soon (rest h) = omega (arith, ends)
+  over-soon (fly i p h b a l) = omega arith
+  over-soon (tail c i h l a) = omega arith
+
+  all-begun : {now u v : ℕ} {ws begun : List Entry} → u ≡ 0 → Waits now u v ws begun → ws ≡ begun
+  all-begun e empty = refl
+  all-begun e (full b a m l) = absurd (omega arith)
+
+  -- a write of an empty holding register
+  pub write-flows : {s : SenderHalf} {r : ReceiverHalf} {now : ℕ} {w : Way} (v : ℕ) → Flow s r now w → s .full ≡ 0 → v < 256
+      → Flow (loaded s v) r now (logWrite now v w)
+  write-flows {now = now} v h e byte =
+      let x : Entry = record { at = now; value = v } in
+      let soon = over-soon (h .phase) in
+      record {
+        begun = h .begun;
+        come = h .come;
+        waits = subst (λ (l : List Entry). Waits now 1 v (x ∷ l) (h .begun)) (sym (all-begun e (h .waits)))
+            (full {x = x} {xs = h .begun} byte (omega arith) (omega arith) soon);
+        phase = h .phase;
+        answered = h .answered;
+        spaced = h .spaced;
+        guard = h .guard;
+        tuned = h .tuned;
+        held = h .held;
+      }
+
+  -- a read: what was not read is logged, and the register is empty
+  read-held : {u v : ℕ} {ys : List Entry} {vs : List ℕ} (k : ℕ) → Held u v ys vs → Held 0 k ys (cond (on u) (v ∷ vs) vs)
+  read-held k all = all
+  read-held k but-one = all
+
+  pub read-flows : {s : SenderHalf} {r : ReceiverHalf} {now : ℕ} {w : Way} → Flow s r now w
+      → Flow s (emptied r) now (cond (on (r .unread)) (logRead (r .holding) w) w)
+  read-flows {s = s} {r = r} {now = now} {w = w} h = go (on (r .unread)) (read-held (r .holding) (h .held))
+    where
+      go : (b : Bool) → Held 0 (r .holding) (w .came) (cond b (r .holding ∷ w .read) (w .read)) → Flow s (emptied r) now (cond b (logRead (r .holding) w) w)
+      go true k =
+          record { begun = h .begun; come = h .come; waits = h .waits; phase = h .phase; answered = h .answered; spaced = h .spaced; guard = h .guard; tuned = h .tuned; held = k }
+      go false k =
+          record { begun = h .begun; come = h .come; waits = h .waits; phase = h .phase; answered = h .answered; spaced = h .spaced; guard = h .guard; tuned = h .tuned; held = k }
+
+  -- == what it promises ==
+
+  delivered-begun : {now : ℕ} {fr : Frame} {st : Receiver} {begun come ys : List Entry} → Phase now fr st begun come → Answered f ys come → Delivered f now ys begun
+  delivered-begun (rest h) an = Demand3.all an
+  delivered-begun (fly {x = x} i p h b a l) an = due {x = x} (omega arith) (Demand3.all an)
+  delivered-begun (tail c i h l a) an = Demand3.all an
+
+  delivered-all : {now u v : ℕ} {ws begun ys : List Entry} → Waits now u v ws begun → Delivered f now ys begun → Delivered f now ys ws
+  delivered-all empty d = d
+  delivered-all (full {x = x} b a m l) d = due {x = x} (omega (arith, ends)) d
+
+  pub flow-delivers : {s : SenderHalf} {r : ReceiverHalf} {now : ℕ} {w : Way} → Flow s r now w → Delivered f now (w .came) (w .written)
+  flow-delivers h = delivered-all (h .waits) (delivered-begun (h .phase) (h .answered))
+
+  held-fetched : {u v : ℕ} {ys : List Entry} {vs : List ℕ} → Held u v ys vs → Fetched (on u) ys vs
+  held-fetched all = Demand3.all
+  held-fetched but-one = Demand3.but-one
+
+  pub flow-fetched : {s : SenderHalf} {r : ReceiverHalf} {now : ℕ} {w : Way} → Flow s r now w → Fetched (on (r .unread)) (w .came) (w .read)
+  flow-fetched h = held-fetched (h .held)
+
+  -- nothing has happened yet
+  pub flow-begins : (s : SenderHalf) (r : ReceiverHalf) → s ≡ idleSender → r .state ≡ searching → r .unread ≡ 0 → Tuned g r → Flow s r 0 nothingYet
+  flow-begins s r e q u t =
+      record {
+        begun = [];
+        come = [];
+        waits = subst (λ (k : SenderHalf). Waits 0 (k .full) (k .holding) [] []) (sym e) empty;
+        phase = subst (λ (k : SenderHalf). Phase 0 (k .frame) (r .state) [] []) (sym e) (subst (λ (m : Receiver). Phase 0 noFrame m [] []) (sym q) (rest (omega arith)));
+        answered = none;
+        spaced = tt;
+        guard = ap (λ (k : SenderHalf). k .guard) e;
+        tuned = t;
+        held = subst (λ (k : ℕ). Held k (r .holding) [] []) (sym u) all;
+      }
+
+-- == what was read ==
+
+answered-values : (f : Format) {ys xs : List Entry} → Answered f ys xs → values ys ≡ map (λ (x : Entry). cut f (x .value)) xs
+answered-values f none = refl
+answered-values f (one a an) = ap₂ (λ (v : ℕ) (vs : List ℕ). v ∷ vs) (a .value) (answered-values f an)
+
+answered-first : (f : Format) {b : Bool} {ys xs : List Entry} {vs : List ℕ} → Fetched b ys vs → Answered f ys xs → FirstWrites f vs xs
+answered-first f {xs = xs} Demand3.all an = record { later = []; first = xs; written = refl; read = answered-values f an }
+answered-first f Demand3.but-one (one {x = x} {xs = xs} a an) = record { later = x ∷ []; first = xs; written = refl; read = answered-values f an }
+
+-- the values read are those of the first writes, cut
+pub first-writes : (f : Format) {now : ℕ} {b : Bool} {ys xs : List Entry} {vs : List ℕ} → Fetched b ys vs → Delivered f now ys xs → FirstWrites f vs xs
+first-writes f g (Demand3.all an) = answered-first f g an
+first-writes f g (due {x = x} h d) =
+    let r = first-writes f g d in
+    record { later = x ∷ r .later; first = r .first; written = ap (λ (l : List Entry). x ∷ l) (r .written); read = r .read }

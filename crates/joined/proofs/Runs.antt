@@ -34,7 +34,7 @@ level-refusal : (x : Bool) → levelRefusal (bit x) ≡ 0
 level-refusal true = refl
 level-refusal false = refl
 
-on-bit : (x : Bool) → on (bit x) ≡ x
+pub on-bit : (x : Bool) → on (bit x) ≡ x
 on-bit true = refl
 on-bit false = refl
 
@@ -58,7 +58,7 @@ pub record BothIn (p : Pair) : Type 0 where
 settled-both : (p : Pair) → BothIn (settledPair p)
 settled-both p = record { a = settled-in (p .a); b = settled-in (p .b) }
 
-settled-pair : (p : Pair) → BothIn p → settledPair p ≡ p
+pub settled-pair : (p : Pair) → BothIn p → settledPair p ≡ p
 settled-pair p h = ap₂ (λ (a b : Device). record { a = a; b = b }) (settled-is (p .a) (h .a)) (settled-is (p .b) (h .b))
 
 joined-in : (p : Pair) → BothIn p → BothIn (joinedTick p .pair)
