@@ -48,6 +48,11 @@ not-twice : {X : Type 0} (u : Bool) (x y : X) → cond (not u && u) x y ≡ y
 not-twice true x y = refl
 not-twice false x y = refl
 
+-- a sender in the format f is idle, with no frame under way and nothing waiting, exactly when the frames of all that was written are over
+pub record Idles (f : Format) (s : SenderHalf) (now : ℕ) (xs : List Entry) : Type 0 where
+  pub nothing : over (frameLength f) xs ≤ now → (s .frame .place ≡ 0) × (s .full ≡ 0)
+  pub over-by-now : s .frame .place ≡ 0 → s .full ≡ 0 → over (frameLength f) xs ≤ now
+
 -- a sender in the format f, and a receiver in a format g that is alike
 pub record Fit (f g : Format) : Type 0 where
   pub bounds : Bounds f
@@ -236,7 +241,7 @@ module _ {f g : Format} (fit : Fit f g) where
         went-on l = on-frame (frameOf f c (suc i)) (frame-goes-on f c i fits l)
 
         answer : i ≡ D → Answers f (record { at = suc now; value = cut f c }) x xs
-        answer e = record { value = refl; bound = omega arith; idle = λ q. omega arith }
+        answer e = record { value = refl; bound = omega arith; idle = λ q. omega arith; exact = omega arith }
 
         land : i ≡ D → (fr : Frame) → k ≡ sender fr u v → Phase (suc now) fr searching (x ∷ xs) (x ∷ xs) → Flows k r (receive r true g (level f c i)) now w
         land e fr q ph =
@@ -382,6 +387,17 @@ module _ {f g : Format} (fit : Fit f g) where
 
   pub flow-fetched : {s : SenderHalf} {r : ReceiverHalf} {now : ℕ} {w : Way} → Flow s r now w → Fetched (on (r .unread)) (w .came) (w .read)
   flow-fetched h = held-fetched (h .held)
+
+  idles : {now u v : ℕ} {fr : Frame} {st : Receiver} {ws begun come : List Entry} → Phase now fr st begun come → Waits now u v ws begun → Idles f (sender fr u v) now ws
+  idles (rest h) empty = record { nothing = λ o. (refl, refl); over-by-now = λ p q. h }
+  idles (rest h) (full b a m l) = record { nothing = λ o. absurd (omega (arith, ends)); over-by-now = λ p q. absurd (omega arith) }
+  idles (fly i p h b a l) empty = record { nothing = λ o. absurd (omega (arith, ends)); over-by-now = λ q e. absurd (omega arith) }
+  idles (fly i p h b a l) (full c d m n) = record { nothing = λ o. absurd (omega (arith, ends)); over-by-now = λ q e. absurd (omega arith) }
+  idles (tail c i h l a) empty = record { nothing = λ o. absurd (omega arith); over-by-now = λ q e. absurd (omega arith) }
+  idles (tail c i h l a) (full b d m n) = record { nothing = λ o. absurd (omega (arith, ends)); over-by-now = λ q e. absurd (omega arith) }
+
+  pub flow-idles : {s : SenderHalf} {r : ReceiverHalf} {now : ℕ} {w : Way} → Flow s r now w → Idles f s now (w .written)
+  flow-idles h = let k = idles (h .phase) (h .waits) in record { nothing = k .nothing; over-by-now = k .over-by-now }
 
   -- nothing has happened yet
   pub flow-begins : (s : SenderHalf) (r : ReceiverHalf) → s ≡ idleSender → r .state ≡ searching → r .unread ≡ 0 → Tuned g r → Flow s r 0 nothingYet

@@ -37,7 +37,7 @@ use Rattle.joined.proofs.Runs.{BothIn, on-bit, settled-pair, tick-is}
 use Rattle.joined.proofs.Ready.{Ready, senderAfter, receiverAfter, Kept}
 use Rattle.joined.proofs.Calls.{unread-is, character-is, vacant-is, no-flag, call-keeps}
 use Rattle.joined.proofs.Sides.{setUpDevice, set-up-leaves, set-up-ready, sent-is, Ticked, tick-keeps}
-use Rattle.joined.proofs.Delivery.{noticed, Fit, Flow, Flows, tick-flows, write-flows, read-flows, flow-delivers, flow-fetched, flow-begins, first-writes}
+use Rattle.joined.proofs.Delivery.{noticed, Fit, Flow, Flows, tick-flows, write-flows, read-flows, flow-delivers, flow-fetched, Idles, flow-idles, flow-begins, first-writes}
 
 -- one of two that are true together
 or-else : (p q : Bool) → (not p || q) ≡ true → p ≡ true → q ≡ true
@@ -253,3 +253,10 @@ module _ (a b : Settings) (pa : Proper a) (pb : Proper b) (agree : Agree a b) (d
         b-reads = first-writes (sends a) b-fetched (demand-3 .there);
         a-reads = first-writes (sends b) a-fetched (demand-3 .back);
       }
+
+  -- 'idle', as the promise reads it from the log, is what it is in the device
+  pub a-idles : Idles (sends a) (end .pair .a .sender) (end .now) (end .there .written)
+  a-idles = flow-idles (to a b pa pb agree) (ran .there)
+
+  pub b-idles : Idles (sends b) (end .pair .b .sender) (end .now) (end .back .written)
+  b-idles = flow-idles (fro a b pa pb agree) (ran .back)

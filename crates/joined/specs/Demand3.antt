@@ -99,7 +99,8 @@ module _ (a b : Settings) where
 
 -- == what is promised ==
 
--- when the frames of these characters are over: each begins once it is written and the one before it is over, and takes L ticks
+-- when the frames of these characters are over: each begins once it is written and the one before it is over, and takes L ticks.
+-- A sender is idle from then on: no frame under way, nothing waiting (proofs/Promised.antt, `a-idles` and `b-idles`)
 abbrev pub over : ℕ → List Entry → ℕ
 over L [] = 0
 over L (x ∷ xs) = max (x .at) (over L xs) + L
@@ -113,11 +114,12 @@ module _ (f : Format) where
   D = stopSample f
 
   -- y is the arrival of the character x, written after the characters xs: unchanged but for the bits above its length,
-  -- not later than L+D after the write, and at exactly 1+D where the sender was idle
+  -- not later than L+D after the write, at exactly 1+D where the sender was idle, and at 1+D after its frame began in every case
   pub record Answers (y x : Entry) (xs : List Entry) : Type 0 where
     pub value : y .value ≡ cut f (x .value)
     pub bound : y .at ≤ x .at + (L + D)
     pub idle : over L xs ≤ x .at → y .at ≡ x .at + (1 + D)
+    pub exact : y .at ≡ max (x .at) (over L xs) + (1 + D)
 
   -- the arrivals, one by one, in the order of the writes; the latest first
   pub data Answered : List Entry → List Entry → Type 0 where
