@@ -11,7 +11,6 @@ use Rattle.line.specs.Receiving.{sample}
 use Rattle.link.specs.Transmitting as link-transmitting
 use Rattle.link.specs.Hearing as link-hearing
 use Rattle.link.specs.Within.{senderInRange, receiverInRange}
-use Rattle.ins2651.specs.declared.Device.{Device}
 use Rattle.ins2651.specs.Shape.{resetDevice}
 use Rattle.ins2651.specs.Modes.{formatOf}
 use Rattle.ins2651.specs.Status.{statusByte}
@@ -21,9 +20,9 @@ use Rattle.ins2651.specs.RegisterReads.{readRegister, read}
 use Rattle.ins2651.specs.RegisterWrites.{writeRegister, write}
 use Rattle.ins2651.specs.Pinning.{pinned, setPins}
 use Rattle.ins2651.specs.Ticks.{transmitTick, transmit, receiveTick, receive}
-use Rattle.ins2651.specs.Runs.{Read, Write, SetPins, said}
+use Rattle.ins2651.specs.Runs.{Read, Write, said}
 use Rattle.joined.specs.Joining.{tick}
-use Rattle.joined.specs.Bench.{Way, Side, A, B, Step, Tick, At, Bench, step, runs}
+use Rattle.joined.specs.Bench.{A, B, Step, Tick, At, Bench, step, runs}
 use Rattle.joined.specs.Demand3.{Settings, Proper, Agree, fresh, allAllowed, Right}
 use Rattle.joined.proofs.Promised.{demand-3}
 

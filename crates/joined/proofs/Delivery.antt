@@ -1,20 +1,18 @@
 -- Delivery from a sending half to a receiving half: a tick, a write and a read keep what demand 3 promises of one way of the line.
 -- The times of the writes decide everything: a frame begins once it is written and the one before it is over.
 -- Assumes nothing.
-use Prim.Native.Nat.{ℕ, zero, suc, _+_, _*_, _-_, _/_, _%_, _^_, _≤_, _<_, max}
+use Prim.Native.Nat.{ℕ, suc, _+_, _*_, _/_, _%_, _^_, _≤_, _<_, max}
 use native.Mathlib.Omega.{arith}
 use mathlib.Core.Path.{_≡_, refl, ap, ap₂, sym, subst, _∙_}
-use mathlib.Core.Bool.{Bool, true, false, cond, not, _&&_, _||_}
-use mathlib.Core.List.{List, [], _∷_, _++_, map}
+use mathlib.Core.Bool.{Bool, true, false, cond, not, _&&_}
+use mathlib.Core.List.{List, [], _∷_, map}
 use lib.Dec.{ltb}
 use borrow.Author.Tests.{ltb-true, ltb-false, lt-ltb}
 use Rattle.line.specs.declared.Format.{Format}
 use Rattle.line.specs.declared.Receiver.{Receiver}
-use Rattle.line.specs.declared.Arrival.{Arrival}
 use Rattle.line.specs.declared.Heard.{Heard}
-use Rattle.line.specs.declared.Heard.the-variants.{Nothing, Character}
-use Rattle.line.specs.declared.Sampled.{Sampled}
-use Rattle.line.specs.Sending.{bit, on, half, parityBits, cut, frameLength, stopSample, level, listed}
+use Rattle.line.specs.declared.Heard.the-variants.{Character}
+use Rattle.line.specs.Sending.{bit, on, half, cut, frameLength, stopSample, level, listed}
 use Rattle.line.specs.Range.{Bounds}
 use Rattle.line.specs.Receiving.{searching, quiet, sample, after}
 use Rattle.line.specs.Sees.{Alike}
@@ -27,8 +25,8 @@ use Rattle.link.specs.declared.ReceiverHalf.{ReceiverHalf}
 use Rattle.link.specs.declared.Sent.{Sent}
 use Rattle.link.specs.declared.Received.{Received}
 use Rattle.link.specs.Parts.{noFormat, noFrame, idleSender, loaded, emptied}
-use Rattle.link.specs.Transmitting.{frameNext, frameTick, transmit}
-use Rattle.link.specs.Hearing.{underWay, formatFor, stepped, holds, arrives, taken, receive}
+use Rattle.link.specs.Transmitting.{frameNext, transmit}
+use Rattle.link.specs.Hearing.{underWay, stepped, holds, arrives, taken, receive}
 use Rattle.link.proofs.Halves.{transmit-under, length-bound, frameOf, frame-goes-on, frame-ends, Tuned, receive-is}
 use Rattle.joined.specs.Bench.{Entry, Way, nothingYet, logWrite, logArrival, logRead}
 use Rattle.joined.specs.Demand3

@@ -1,7 +1,7 @@
 -- Demand 3 holds: after every list of allowed steps from a fresh set-up, both ways at once.
 -- The devices follow their halves, so that delivery between halves is delivery between devices.
 -- Assumes nothing.
-use Prim.Native.Nat.{ℕ, zero, suc, _+_, _≤_, _<_}
+use Prim.Native.Nat.{ℕ, zero, suc, _+_, _<_}
 use native.Mathlib.Omega.{arith}
 use mathlib.Core.Path.{_≡_, refl, ap, ap₂, sym, subst, _∙_}
 use mathlib.Core.Bool.{Bool, true, false, cond, not, _&&_, _||_, true≢false}
@@ -10,9 +10,7 @@ use lib.Dec.{ltb, eqb}
 use borrow.Author.Tests.{ltb-true, ne-eqb}
 use Rattle.line.specs.declared.Format.{Format}
 use Rattle.line.specs.Sending.{on, frameLength}
-use Rattle.line.specs.Range.{Bounds}
 use Rattle.line.specs.Receiving.{sample}
-use Rattle.line.specs.Sees.{Alike}
 use Rattle.line.proofs.Ranges.{in-range-bounds}
 use Rattle.line.proofs.Table.{both}
 use Rattle.link.specs.declared.SenderHalf.{SenderHalf}
@@ -26,17 +24,17 @@ use Rattle.ins2651.specs.Modes.{has}
 use Rattle.ins2651.specs.Ranges.{inRange}
 use Rattle.ins2651.specs.Refusals.{writeRefusal}
 use Rattle.ins2651.specs.Ticks.{sent, transmitTick, receiveTick}
-use Rattle.ins2651.specs.Runs.{Call, Reset, Read, Write, SetPins, Transmit, Receive, Outputs, next, after}
+use Rattle.ins2651.specs.Runs.{Call, Reset, Read, Write, SetPins, Transmit, Receive, Outputs, after}
 use Rattle.ins2651.proofs.Formats.{format-in}
 use Rattle.joined.specs.declared.Pair.{Pair}
 use Rattle.joined.specs.declared.Joined.{Joined}
 use Rattle.joined.specs.Joining.{joinedTick, tick}
-use Rattle.joined.specs.Bench.{unread, character, Way, nothingYet, logWrite, logArrival, logRead, wrote, fetched, heard, Side, A, B, Step, Tick, At, Bench, ticked, step, runs}
-use Rattle.joined.specs.Demand3.{Settings, setUp, Proper, sends, receives, Agree, fresh, allowedCall, latest, inTime, allowed, allAllowed, over, Right, Fetched, Seen}
-use Rattle.joined.proofs.Runs.{BothIn, on-bit, settled-pair, tick-is}
-use Rattle.joined.proofs.Ready.{Ready, senderAfter, receiverAfter, Kept}
+use Rattle.joined.specs.Bench.{unread, character, Way, nothingYet, logWrite, logArrival, logRead, wrote, fetched, heard, A, B, Step, Tick, At, Bench, ticked, step, runs}
+use Rattle.joined.specs.Demand3.{Settings, setUp, Proper, sends, receives, Agree, fresh, allowedCall, latest, inTime, allowed, allAllowed, Right, Fetched, Seen}
+use Rattle.joined.proofs.Runs.{on-bit, settled-pair, tick-is}
+use Rattle.joined.proofs.Ready.{Ready, senderAfter, receiverAfter}
 use Rattle.joined.proofs.Calls.{unread-is, character-is, vacant-is, no-flag, call-keeps}
-use Rattle.joined.proofs.Sides.{setUpDevice, set-up-leaves, set-up-ready, sent-is, Ticked, tick-keeps}
+use Rattle.joined.proofs.Sides.{setUpDevice, set-up-leaves, set-up-ready, sent-is, tick-keeps}
 use Rattle.joined.proofs.Delivery.{noticed, Fit, Flow, Flows, tick-flows, write-flows, read-flows, flow-delivers, flow-fetched, Idles, flow-idles, flow-begins, first-writes}
 
 -- one of two that are true together

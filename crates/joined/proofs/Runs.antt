@@ -3,13 +3,11 @@
 use Prim.Native.Nat.{ℕ, zero, suc, _+_, _-_, _<_, _≤_}
 use native.Mathlib.Nat.{zero-add, suc-add}
 use native.Mathlib.Omega.{arith}
-use mathlib.Core.Path.{_≡_, refl, ap, ap₂, sym, subst, _∙_}
+use mathlib.Core.Path.{_≡_, refl, ap, ap₂, sym, _∙_}
 use mathlib.Core.Bool.{Bool, true, false}
-use lib.Dec.{leb}
 use Rattle.line.specs.Sending.{bit, on}
 use Rattle.ins2651.specs.declared.Device.{Device}
 use Rattle.ins2651.specs.declared.Outcome.{Outcome}
-use Rattle.ins2651.specs.declared.Ticked.{Ticked}
 use Rattle.ins2651.specs.Ranges.{inRange, settled}
 use Rattle.ins2651.specs.Refusals.{levelRefusal}
 use Rattle.ins2651.specs.Ticks.{sent, transmitTick, transmit, receiveTick, receive}
@@ -19,7 +17,7 @@ use Rattle.ins2651.proofs.Done.{done-receive}
 use Rattle.ins2651.proofs.InRange.{next-in}
 use Rattle.joined.specs.declared.Pair.{Pair}
 use Rattle.joined.specs.declared.Joined.{Joined}
-use Rattle.joined.specs.Joining.{settledPair, exchange, joinedTick, joinedTicks, tick, ticks}
+use Rattle.joined.specs.Joining.{settledPair, joinedTick, joinedTicks, tick, ticks}
 
 -- == ranges ==
 

@@ -1,7 +1,6 @@
 // Two devices joined by a line: document 01, "Receiving, by receive ticks", on joined ticks.
 // Every call takes any number in any field, and none is refused. A device out of range is taken as one just reset.
 ghost use mathlib.Core.Path.{_≡_};
-ghost use mathlib.Core.Bool.{Bool};
 ghost use Rattle.line.specs.Sending.{on};
 ghost use Rattle.ins2651.specs.Ticks.{receiveTick};
 ghost use Rattle.joined.specs.Joining;

@@ -1,10 +1,9 @@
 -- `joined::run` meets its contract: an empty run leaves the pair as given, any other runs the pair settled.
 -- Assumes nothing.
 use native.Mathlib.Omega.{arith}
-use mathlib.Core.Path.{_≡_, ap, sym, _∙_}
+use mathlib.Core.Path.{ap, sym, _∙_}
 use Prim.Native.Nat.{ℕ}
 use borrow.Author.Needs.{needs}
-use Rattle.joined.specs.declared.Pair.{Pair}
 use Rattle.joined.specs.Joining.{ticks, joinedTicks}
 use Rattle.joined.proofs.Runs.{settled-ticks}
 use Rattle.joined.proofs.run.Statement.{statement}
