@@ -1,8 +1,6 @@
 // Two devices joined by a line: document 01, "Receiving, by receive ticks", on joined ticks.
 // Every call takes any number in any field, and none is refused. A device out of range is taken as one just reset.
 ghost use mathlib.Core.Path.{_≡_};
-ghost use Rattle.line.specs.Sending.{on};
-ghost use Rattle.ins2651.specs.Ticks.{receiveTick};
 ghost use Rattle.joined.specs.Joining;
 ghost use Rattle.joined.specs.Joining.{settledPair, joinedTick, ticks};
 use ins2651::Device;
@@ -32,21 +30,14 @@ fn settle(p: Pair) -> Pair
     }
 }
 
-// The receive tick of a device after its own transmit tick: it takes the other's level.
-fn hear(own: Ticked, other: u8) -> Device
-    ensures { λ r. ⌜ r ≡ receiveTick (own .device) (on other) ⌝ }
-{
-    ins2651::receive_tick(own.device, 0 < other)
-}
-
 // What both transmit ticks lead to.
 fn exchange(a: Ticked, b: Ticked) -> Joined
     ensures { λ r. ⌜ r ≡ Joining.exchange a b ⌝ }
 {
     Joined {
         pair: Pair {
-            a: hear(a, b.level),
-            b: hear(b, a.level),
+            a: ins2651::receive_tick(a.device, 0 < b.level),
+            b: ins2651::receive_tick(b.device, 0 < a.level),
         },
         a: a.level,
         b: b.level,
