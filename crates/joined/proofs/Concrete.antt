@@ -22,7 +22,7 @@ use Rattle.ins2651.specs.Pinning.{pinned, setPins}
 use Rattle.ins2651.specs.Ticks.{transmitTick, transmit, receiveTick, receive}
 use Rattle.ins2651.specs.Runs.{Read, Write, said}
 use Rattle.joined.specs.Joining.{tick}
-use Rattle.joined.specs.Bench.{A, B, Step, Tick, At, Bench, step, runs}
+use Rattle.joined.specs.Bench.{statusBit, A, B, Step, Tick, At, Bench, step, runs}
 use Rattle.joined.specs.Demand3.{Settings, Proper, Agree, fresh, allAllowed, Right}
 use Rattle.joined.proofs.Promised.{demand-3}
 
@@ -120,3 +120,22 @@ full-line-back = refl
 
 pub full-line-right : Right one-stop two-stops (runs (start one-stop two-stops) full-line)
 full-line-right = demand-3 one-stop two-stops one-stop-proper two-stops-proper stops-agree resetDevice resetDevice full-line full-line-allowed
+
+-- == what the premises are for ==
+
+-- two characters and no read: as long as the first may still be read all is allowed, and at the next tick the second overruns it
+abbrev unread-for : ℕ → List Step
+unread-for n = At A (Write 0 193) ∷ Tick ∷ At A (Write 0 194) ∷ after n []
+
+pub may-still-be-read : allAllowed one-stop two-stops (start one-stop two-stops) (unread-for 20) ≡ true
+unfolding part oddOnes parityBit sample link-transmitting.transmit link-hearing.receive line-range.inRange senderInRange receiverInRange formatOf statusByte inRange settled writeRefusal readRegister read writeRegister write pinned setPins transmitTick transmit receiveTick receive tick
+may-still-be-read = refl
+
+pub late-read-overruns : statusBit 16 (runs (start one-stop two-stops) (unread-for 21) .pair .b) ≡ true
+unfolding part oddOnes parityBit sample link-transmitting.transmit link-hearing.receive line-range.inRange senderInRange receiverInRange formatOf statusByte inRange settled writeRefusal readRegister read writeRegister write pinned setPins transmitTick transmit receiveTick receive tick
+late-read-overruns = refl
+
+-- a write that was not asked for replaces the character that waits
+pub unasked-write-loses : runs (start one-stop two-stops) (At A (Write 0 193) ∷ At A (Write 0 194) ∷ after 40 []) .there .came ≡ record { at = 11; value = 194 } ∷ []
+unfolding part oddOnes parityBit sample link-transmitting.transmit link-hearing.receive line-range.inRange senderInRange receiverInRange formatOf statusByte inRange settled writeRefusal readRegister read writeRegister write pinned setPins transmitTick transmit receiveTick receive tick
+unasked-write-loses = refl

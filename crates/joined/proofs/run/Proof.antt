@@ -1,7 +1,7 @@
 -- `joined::run` meets its contract: an empty run leaves the pair as given, any other runs the pair settled.
 -- Assumes nothing.
 use native.Mathlib.Omega.{arith}
-use mathlib.Core.Path.{ap, sym, _∙_}
+use mathlib.Core.Path.{_≡_, ap, sym, _∙_}
 use Prim.Native.Nat.{ℕ}
 use borrow.Author.Needs.{needs}
 use Rattle.joined.specs.Joining.{ticks, joinedTicks}
@@ -10,7 +10,7 @@ use Rattle.joined.proofs.run.Statement.{statement}
 use Rattle.joined.proofs.run.Tie as tie
 
 returns : tie.Need-returns
-returns c = sym (ap (λ (k : ℕ). ticks k (c .before .args .p)) (c .if1 .taken))
+returns c = let e : c .before .args .n ≡ 0 = omega (arith, c .if1 .taken) in sym (ap (λ (k : ℕ). ticks k (c .before .args .p)) e)
 
 returns-2 : tie.Need-returns-2
 returns-2 c =

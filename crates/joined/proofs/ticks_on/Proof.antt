@@ -19,11 +19,11 @@ abbrev μ-loop : tie.MeasureT-loop
 loop-again : tie.Need-loop-again Inv-loop μ-loop
 loop-again c =
     ap (λ (o : Joined). joinedTicks (c .before .before .before .loop .left - 1) (o .pair)) (c .before .joined-tick .ensures)
-    ∙ sym (one-less (c .before .before .before .loop .left) (c .before .before .before .loop .pair) (c .before .before .loop-test .taken))
+    ∙ sym (one-less (c .before .before .before .loop .left) (c .before .before .before .loop .pair) (omega (arith, c .before .before .loop-test .taken)))
     ∙ c .before .before .before .loop .inv
 
 returns : tie.Need-returns Inv-loop μ-loop
-returns c = sym (none-left (c .before .loop .left) (c .before .loop .pair) (c .loop-test .left)) ∙ c .before .loop .inv
+returns c = sym (none-left (c .before .loop .left) (c .before .loop .pair) (omega (arith, c .loop-test .left))) ∙ c .before .loop .inv
 
 pub ticks-on-spec : {M : Type 1} → statement M
 ticks-on-spec = tie.close (tie.spec Inv-loop μ-loop (λ c. refl) (λ c κs. search needs) (λ c. omega arith) (λ c. omega arith) loop-again returns)
