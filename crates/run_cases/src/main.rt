@@ -1,5 +1,7 @@
-// Document 01's bench cases that are run, and recordings drawn at random, read by the receiver and written out for comparison.
+// Document 01's bench cases that are run, on one device and on two joined, and recordings drawn at random, read by the receiver; all
+// written out for comparison.
 use ins2651::Device;
+use joined::Pair;
 use libc::STDOUT_FILENO;
 use line::Arrival;
 use line::Format;
@@ -295,11 +297,16 @@ fn written(d: Device, address: u8, value: u8) -> Device {
     o.device
 }
 
-// A device set up to receive, pins low.
-fn set_up(mode1: u8) -> Device {
-    let modes = written(written(ins2651::reset(), 2, mode1), 2, 0);
-    let o = ins2651::set_pins(written(modes, 3, 4), 0, 0, 0);
+// Document 01's set-up: reset, both modes, a command, pins low.
+fn set_up(mode1: u8, mode2: u8, command: u8) -> Device {
+    let modes = written(written(ins2651::reset(), 2, mode1), 2, mode2);
+    let o = ins2651::set_pins(written(modes, 3, command), 0, 0, 0);
     o.device
+}
+
+// The same to receive only, with both clocks external.
+fn set_up_to_hear(mode1: u8) -> Device {
+    set_up(mode1, 0, 4)
 }
 
 fn hear(d: Device, x: u8, n: u32) -> Device {
@@ -331,7 +338,7 @@ fn hear_frame(d: Device, c: u8) -> Device {
 
 fn two_unread() {
     text(b"K\tunread\n");
-    let marked = hear(set_up(77), 1, 1);
+    let marked = hear(set_up_to_hear(77), 1, 1);
     let both = hear_frame(hear_frame(marked, 65), 66);
     show(show(show(both, 1), 0), 1);
 }
@@ -345,14 +352,14 @@ fn zeros(n: u32) {
     text(b"K\tzeros");
     io::print_decimal(STDOUT_FILENO, n as u64);
     text(b"\n");
-    let dropped = hear(hear(set_up(79), 1, 1), 0, n);
+    let dropped = hear(hear(set_up_to_hear(79), 1, 1), 0, n);
     let after = hear(dropped, 1, 1000);
     show(show(show(after, 1), 0), 1);
 }
 
 fn short_pulse() {
     text(b"K\tpulse\n");
-    let dropped = hear(hear(set_up(78), 1, 100), 0, 3);
+    let dropped = hear(hear(set_up_to_hear(78), 1, 100), 0, 3);
     let after = hear(dropped, 1, 1000);
     show(show(after, 1), 0);
 }
@@ -365,6 +372,53 @@ fn chip_cases() {
     short_pulse();
 }
 
+// == two devices joined ==
+
+// Two devices that send and hear, after the one joined tick of document 01's set-up.
+fn fresh_pair(a: Device, b: Device) -> Pair {
+    joined::run(Pair { a: a, b: b }, 1)
+}
+
+fn a_writes(p: Pair, address: u8, value: u8) -> Pair {
+    let mut next = p;
+    let d = written(p.a, address, value);
+    next.a = d;
+    next
+}
+
+fn b_writes(p: Pair, address: u8, value: u8) -> Pair {
+    let mut next = p;
+    let d = written(p.b, address, value);
+    next.b = d;
+    next
+}
+
+fn b_shows(p: Pair, address: u8) -> Pair {
+    let mut next = p;
+    let d = show(p.b, address);
+    next.b = d;
+    next
+}
+
+// Document 01's session: the character is not there after 152 ticks, and is there after 153.
+fn worked_session() {
+    text(b"K\tsession\n");
+    let fresh = fresh_pair(set_up(206, 126, 39), set_up(206, 126, 39));
+    let early = b_shows(joined::run(a_writes(fresh, 0, 255), 152), 1);
+    b_shows(b_shows(b_shows(joined::run(early, 1), 1), 0), 1);
+}
+
+// The fault code 255 sent with even parity (126) and received with odd (94); a good weight after it, with the mode mended.
+// The parity flag stays until reset error.
+fn fault_code() {
+    text(b"K\tfault\n");
+    let fresh = fresh_pair(set_up(126, 0, 5), set_up(94, 0, 5));
+    let bad = b_shows(b_shows(joined::run(a_writes(fresh, 0, 255), 176), 1), 0);
+    let weighed = a_writes(a_writes(bad, 2, 94), 0, 100);
+    let good = b_shows(b_shows(b_shows(joined::run(weighed, 176), 1), 0), 1);
+    b_shows(b_writes(good, 3, 21), 1);
+}
+
 fn main() {
     pulse(plain(64), 32);
     pulse(plain(64), 33);
@@ -373,4 +427,6 @@ fn main() {
     let sixteen = formats(16, one);
     formats(64, sixteen);
     chip_cases();
+    worked_session();
+    fault_code();
 }

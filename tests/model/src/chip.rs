@@ -350,3 +350,13 @@ impl Chip {
         self.mode1.map(|mode1| decode(mode1, internal))
     }
 }
+
+/// Joined ticks of two chips: both transmit ticks, then each receiver takes the
+/// other's level ("Receiving").
+pub fn joined_ticks(a: &mut Chip, b: &mut Chip, count: u32) {
+    for _ in 0..count {
+        let (from_a, from_b) = (a.transmit(), b.transmit());
+        a.receive(from_b);
+        b.receive(from_a);
+    }
+}

@@ -1,9 +1,9 @@
 //! Prints what the model reads from a few bench recordings and from a sweep of
-//! pseudo-random recordings, one for each format, then what the chip answers in
-//! a few bench cases, as text with tabs: what the program `run_cases` has to
-//! write.
+//! pseudo-random recordings, one for each format, then what one chip and two
+//! chips joined answer in a few bench cases, as text with tabs: what the program
+//! `run_cases` has to write.
 
-use model::chip::Chip;
+use model::chip::{joined_ticks, Chip};
 use model::{frame, read, Character, Format, Generator};
 
 /// The flags at their places in the status register: framing 5, parity 3.
@@ -123,12 +123,12 @@ fn sum(characters: &[Character]) -> u32 {
     sum
 }
 
-/// A chip just reset, then set up to receive only, with all pins low.
-fn set_up(mode1: u8) -> Chip {
+/// A chip just reset, then given both modes and a command, with all pins low.
+fn set_up(mode1: u8, mode2: u8, command: u8) -> Chip {
     let mut chip = Chip::just_reset();
     chip.write(2, mode1);
-    chip.write(2, 0);
-    chip.write(3, 4);
+    chip.write(2, mode2);
+    chip.write(3, command);
     chip.set_pins(0, 0, 0);
     chip
 }
@@ -150,7 +150,7 @@ fn show(chip: &mut Chip, addresses: &[u8]) {
 
 fn print_chip_cases() {
     println!("K\tunread");
-    let mut chip = set_up(77);
+    let mut chip = set_up(77, 0, 4);
     hear(&mut chip, &run(true, 1));
     hear(&mut chip, &frame(&plain(1), 65));
     hear(&mut chip, &frame(&plain(1), 66));
@@ -161,7 +161,7 @@ fn print_chip_cases() {
 
     for zeros in [32, 33] {
         println!("K\tzeros{zeros}");
-        let mut chip = set_up(79);
+        let mut chip = set_up(79, 0, 4);
         hear(&mut chip, &run(true, 1));
         hear(&mut chip, &run(false, zeros));
         hear(&mut chip, &run(true, 1000));
@@ -169,11 +169,35 @@ fn print_chip_cases() {
     }
 
     println!("K\tpulse");
-    let mut chip = set_up(78);
+    let mut chip = set_up(78, 0, 4);
     hear(&mut chip, &run(true, 100));
     hear(&mut chip, &run(false, 3));
     hear(&mut chip, &run(true, 1000));
     show(&mut chip, &[1, 0]);
+}
+
+fn print_joined_cases() {
+    println!("K\tsession");
+    let (mut a, mut b) = (set_up(206, 126, 39), set_up(206, 126, 39));
+    joined_ticks(&mut a, &mut b, 1);
+    a.write(0, 255);
+    joined_ticks(&mut a, &mut b, 152);
+    show(&mut b, &[1]);
+    joined_ticks(&mut a, &mut b, 1);
+    show(&mut b, &[1, 0, 1]);
+
+    println!("K\tfault");
+    let (mut a, mut b) = (set_up(126, 0, 5), set_up(94, 0, 5));
+    joined_ticks(&mut a, &mut b, 1);
+    a.write(0, 255);
+    joined_ticks(&mut a, &mut b, 176);
+    show(&mut b, &[1, 0]);
+    a.write(2, 94);
+    a.write(0, 100);
+    joined_ticks(&mut a, &mut b, 176);
+    show(&mut b, &[1, 0, 1]);
+    b.write(3, 21);
+    show(&mut b, &[1]);
 }
 
 fn main() {
@@ -195,4 +219,5 @@ fn main() {
         );
     }
     print_chip_cases();
+    print_joined_cases();
 }
