@@ -1,12 +1,12 @@
 -- No run of calls leaves the ranges.
 -- Assumes nothing.
-use Prim.Native.Nat.{ℕ, _/_, _%_, _<_}
+use Prim.Native.Nat.{ℕ, _<_}
 use native.Mathlib.Omega.{arith}
 use mathlib.Core.Path.{_≡_, refl, sym, ap, subst, _∙_}
 use mathlib.Core.Bool.{Bool, true, false, cond, not, _&&_}
 use mathlib.Core.List.{List, [], _∷_}
 use lib.Dec.{leb, eqb}
-use borrow.Author.Tests.{lt-ltb, eqb-true, eqb-false}
+use borrow.Author.Tests.{lt-ltb, eq-eqb, eqb-true, eqb-false}
 use Rattle.line.specs.declared.Heard.{Heard}
 use Rattle.line.specs.declared.Heard.the-variants.{Nothing, Character}
 use Rattle.line.specs.Sending.{on}
@@ -143,17 +143,11 @@ module _ (d : Device) (p : In d) where
   modes-in : (v : ℕ) → modeRefusal (d .registers) v ≡ 0 → registersInRange (modesWritten (d .registers) v) ≡ true
   modes-in v h =
       each (λ (q : Registers). registersInRange q ≡ true) (eqb (d .registers .modes) 0)
-      (λ t. four (accepted (eqb (v % 4) 0) (eqb (v / 64) 0) (sym (ap (λ (b : Bool). cond b (mode1Refusal v) 0) t) ∙ h)) (r .command) refl (r .syns))
+      (λ t. four (eq-eqb (mode1Refusal v) 0 (sym (ap (λ (b : Bool). cond b (mode1Refusal v) 0) t) ∙ h)) (r .command) refl (r .syns))
       (λ t. four (r .mode1) (r .command) refl (r .syns))
-    where
-      -- what mode 1 does not refuse is one that it may hold
-      accepted : (z s : Bool) → _≡_ {A = ℕ} (cond z 4 (cond s 3 0)) 0 → (not z && not s) ≡ true
-      accepted true s e = absurd (omega arith)
-      accepted false true e = absurd (omega arith)
-      accepted false false e = refl
 
   command-in : (v : ℕ) → v < 64 → commandInRange (stored v) ≡ true
-  command-in v h = all (lt-ltb (stored v) 64 (omega arith)) (ap not (bit4-gone v))
+  command-in v h = all (ap (λ (b : Bool). eqb (cond b 0 5) 0) (lt-ltb (stored v) 64 (omega arith))) (ap not (bit4-gone v))
 
   commanded-in : (v : ℕ) → v < 64 → In (writeRegister d 3 v)
   unfolding writeRegister

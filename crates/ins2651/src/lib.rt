@@ -11,7 +11,7 @@ ghost use Rattle.ins2651.specs.Conditions;
 ghost use Rattle.ins2651.specs.Conditions.{dataSetReady, clearToSend, modeSet, mayWrite};
 ghost use Rattle.ins2651.specs.Status;
 ghost use Rattle.ins2651.specs.Status.{modemBits, errorBits, readyBits, statusByte, outputsOf};
-ghost use Rattle.ins2651.specs.Ranges.{isMode1, mode1InRange, commandInRange, registersInRange, pinsInRange, flagsInRange, inRange, settled};
+ghost use Rattle.ins2651.specs.Ranges.{mode1InRange, commandInRange, registersInRange, pinsInRange, flagsInRange, inRange, settled};
 ghost use Rattle.ins2651.specs.Refusals.{readRefusal, mode1Refusal, modeRefusal, commandRefusal, writeRefusal, pinsRefusal, levelRefusal};
 ghost use Rattle.ins2651.specs.RegisterReads;
 ghost use Rattle.ins2651.specs.RegisterReads.{readHolding, readStatus, readMode, readCommand, readRegister};
@@ -313,17 +313,11 @@ pub fn outputs(d: Device) -> OutputPins
 
 // == ranges and reset ==
 
-fn is_mode1(m: u8) -> bool
-    ensures { λ r. ⌜ r ≡ isMode1 m ⌝ }
-{
-    (m % 4 != 0) & (m / 64 != 0)
-}
-
 fn mode1_in_range(accepted: u8, m: u8) -> bool
     ensures { λ r. ⌜ r ≡ mode1InRange accepted m ⌝ }
 {
     if 0 < accepted {
-        return (accepted == 1) & is_mode1(m);
+        return (accepted == 1) & (mode1_refusal(m) == 0);
     }
     m == 0
 }
@@ -331,7 +325,7 @@ fn mode1_in_range(accepted: u8, m: u8) -> bool
 fn command_in_range(v: u8) -> bool
     ensures { λ r. ⌜ r ≡ commandInRange v ⌝ }
 {
-    (v < 64) & !has(16, v)
+    (command_refusal(v) == 0) & !has(16, v)
 }
 
 fn registers_in_range(r: Registers) -> bool
