@@ -5,7 +5,8 @@ use Prim.Native.Nat.{ℕ, zero, suc, _+_, _<_}
 use native.Mathlib.Omega.{arith}
 use mathlib.Core.Path.{_≡_, refl, ap, ap₂, sym, subst, _∙_}
 use mathlib.Core.Bool.{Bool, true, false, cond, not, _&&_, _||_, true≢false}
-use mathlib.Core.List.{List, [], _∷_}
+use mathlib.Core.List.{List, [], _∷_, _++_}
+use lib.ListN.{replicate}
 use lib.Dec.{ltb, eqb}
 use borrow.Author.Tests.{ltb-true, ne-eqb}
 use Rattle.line.specs.declared.Format.{Format}
@@ -19,6 +20,7 @@ use Rattle.link.specs.declared.Sent.{Sent}
 use Rattle.link.specs.Parts.{idleSender, idleReceiver, loaded, emptied}
 use Rattle.link.specs.Transmitting as link-transmitting
 use Rattle.link.specs.Hearing as link-hearing
+use Rattle.link.proofs.Choice.{all}
 use Rattle.ins2651.specs.declared.Device.{Device}
 use Rattle.ins2651.specs.Modes.{has}
 use Rattle.ins2651.specs.Ranges.{inRange}
@@ -28,7 +30,7 @@ use Rattle.ins2651.specs.Runs.{Call, Reset, Read, Write, SetPins, Transmit, Rec
 use Rattle.ins2651.proofs.Formats.{format-in}
 use Rattle.joined.specs.declared.Pair.{Pair}
 use Rattle.joined.specs.declared.Joined.{Joined}
-use Rattle.joined.specs.Joining.{joinedTick, tick}
+use Rattle.joined.specs.Joining.{joinedTick, tick, ticks}
 use Rattle.joined.specs.Bench.{unread, character, Way, nothingYet, logWrite, logArrival, logRead, wrote, fetched, heard, A, B, Step, Tick, At, Bench, ticked, step, runs}
 use Rattle.joined.specs.Demand3.{Settings, setUp, Proper, sends, receives, Agree, fresh, allowedCall, latest, inTime, allowed, allAllowed, Right, Fetched, Seen}
 use Rattle.joined.proofs.Runs.{on-bit, settled-pair, tick-is}
@@ -210,6 +212,20 @@ module _ (a b : Settings) (pa : Proper a) (pb : Proper b) (agree : Agree a b) wh
       begins {g = g} fit x y s r =
           subst (λ (h : ReceiverHalf). Flow fit (x .sender) h 0 nothingYet) (sym r)
           (flow-begins fit (x .sender) (link-hearing.receive idleReceiver true g true .half) s refl refl refl)
+
+-- == steps ==
+
+-- a list of allowed steps is allowed up to any of them, so that what holds after every such list holds all along
+pub prefix-allowed : (a b : Settings) (w : Bench) (ss ts : List Step) → allAllowed a b w (ss ++ ts) ≡ true → allAllowed a b w ss ≡ true
+prefix-allowed a b w [] ts h = refl
+prefix-allowed a b w (s ∷ ss) ts h =
+    let p = both (allowed a b w s) (allAllowed a b (step w s) (ss ++ ts)) h in
+    all (p .0) (prefix-allowed a b (step w s) ss ts (p .1))
+
+-- n steps that are ticks are the run of n
+pub ticks-are-the-run : (n : ℕ) (w : Bench) → runs w (replicate n Tick) .pair ≡ ticks n (w .pair)
+ticks-are-the-run zero w = refl
+ticks-are-the-run (suc n) w = ticks-are-the-run n (step w Tick)
 
 -- == the theorems ==
 
