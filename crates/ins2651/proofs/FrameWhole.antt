@@ -19,7 +19,7 @@ use Rattle.link.specs.declared.SenderHalf.{SenderHalf}
 use Rattle.link.specs.declared.Sent.{Sent}
 use Rattle.link.specs.Parts.{noFrame, loaded}
 use Rattle.link.specs.Transmitting.{frameNext, beginTick}
-use Rattle.link.proofs.Choice.{either, not-so}
+use Rattle.line.proofs.Choice.{either, not-so}
 use Rattle.link.proofs.Halves.{frameOf, transmit-under, transmit-begins, length-bound, frame-goes-on, frame-ends}
 use Rattle.ins2651.specs.declared.Device.{Device}
 use Rattle.ins2651.specs.declared.Outcome.{Outcome}

@@ -14,7 +14,7 @@ use Rattle.line.proofs.Table.{both}
 use Rattle.link.specs.declared.ReceiverHalf.{ReceiverHalf}
 use Rattle.link.specs.Parts.{dropped}
 use Rattle.link.specs.Within.{senderInRange, receiverInRange}
-use Rattle.link.proofs.Choice.{either, each, all}
+use Rattle.line.proofs.Choice.{either, each, all}
 use Rattle.link.proofs.SenderRange.{loaded-in, transmit-in}
 use Rattle.link.proofs.ReceiverRange.{dropped-in, emptied-in, receive-in}
 use Rattle.ins2651.specs.declared.Registers.{Registers}

@@ -2,7 +2,7 @@
 -- Assumes nothing.
 use mathlib.Core.Path.{_≡_, refl}
 use mathlib.Core.Bool.{true, false}
-use Rattle.link.proofs.Choice.{all}
+use Rattle.line.proofs.Choice.{all}
 use Rattle.link.proofs.SenderRange.{idle-sender-in}
 use Rattle.link.proofs.ReceiverRange.{idle-receiver-in}
 use Rattle.ins2651.specs.declared.Device.{Device}

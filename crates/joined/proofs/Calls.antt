@@ -10,7 +10,7 @@ use Rattle.line.specs.Sending.{on}
 use Rattle.line.proofs.Table.{both}
 use Rattle.link.specs.declared.SenderHalf.{SenderHalf}
 use Rattle.link.specs.declared.ReceiverHalf.{ReceiverHalf}
-use Rattle.link.proofs.Choice.{either}
+use Rattle.line.proofs.Choice.{either}
 use Rattle.ins2651.specs.declared.Registers.{Registers}
 use Rattle.ins2651.specs.declared.Pins.{Pins}
 use Rattle.ins2651.specs.declared.Device.{Device}

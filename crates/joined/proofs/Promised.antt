@@ -16,27 +16,26 @@ use Rattle.line.proofs.Ranges.{in-range-bounds}
 use Rattle.line.proofs.Table.{both}
 use Rattle.link.specs.declared.SenderHalf.{SenderHalf}
 use Rattle.link.specs.declared.ReceiverHalf.{ReceiverHalf}
-use Rattle.link.specs.declared.Sent.{Sent}
 use Rattle.link.specs.Parts.{idleSender, idleReceiver, loaded, emptied}
 use Rattle.link.specs.Transmitting as link-transmitting
 use Rattle.link.specs.Hearing as link-hearing
-use Rattle.link.proofs.Choice.{all}
+use Rattle.line.proofs.Choice.{all}
 use Rattle.ins2651.specs.declared.Device.{Device}
 use Rattle.ins2651.specs.Modes.{has}
 use Rattle.ins2651.specs.Ranges.{inRange}
 use Rattle.ins2651.specs.Refusals.{writeRefusal}
-use Rattle.ins2651.specs.Ticks.{sent, transmitTick, receiveTick}
-use Rattle.ins2651.specs.Runs.{Call, Reset, Read, Write, SetPins, Transmit, Receive, Outputs, after}
+use Rattle.ins2651.specs.Ticks.{transmitTick, receiveTick}
+use Rattle.ins2651.specs.Runs.{Call, Reset, Read, Write, SetPins, Transmit, Receive, Outputs, next, after}
 use Rattle.ins2651.proofs.Formats.{format-in}
 use Rattle.joined.specs.declared.Pair.{Pair}
 use Rattle.joined.specs.declared.Joined.{Joined}
 use Rattle.joined.specs.Joining.{joinedTick, tick, ticks}
 use Rattle.joined.specs.Bench.{unread, character, Way, nothingYet, logWrite, logArrival, logRead, wrote, fetched, heard, A, B, Step, Tick, At, Bench, ticked, step, runs}
 use Rattle.joined.specs.Demand3.{Settings, setUp, Proper, sends, receives, Agree, fresh, allowedCall, latest, inTime, allowed, allAllowed, Right, Fetched, Seen}
-use Rattle.joined.proofs.Runs.{on-bit, settled-pair, tick-is}
+use Rattle.joined.proofs.Runs.{settled-pair, tick-is}
 use Rattle.joined.proofs.Ready.{Ready, senderAfter, receiverAfter}
 use Rattle.joined.proofs.Calls.{unread-is, character-is, vacant-is, no-flag, call-keeps}
-use Rattle.joined.proofs.Sides.{setUpDevice, set-up-leaves, set-up-ready, sent-is, tick-keeps}
+use Rattle.joined.proofs.Sides.{setUpDevice, set-up-leaves, set-up-ready, level-is, tick-keeps}
 use Rattle.joined.proofs.Delivery.{noticed, Fit, Flow, Flows, tick-flows, write-flows, read-flows, flow-delivers, flow-fetched, Idles, flow-idles, flow-begins, first-writes}
 
 -- one of two that are true together
@@ -59,45 +58,53 @@ heard-is now d e w h k =
 timely : (L now : ℕ) (d : Device) (w : Way) → inRange d ≡ true → inTime L now d w ≡ true → on (d .receiver .unread) ≡ true → suc now < latest (w .came) + L
 timely L now d w h t u = ltb-true _ _ (or-else (unread d) (ltb (suc now) (latest (w .came) + L)) t (unread-is d h ∙ u))
 
-level-is : (s : Settings) (d : Device) → Proper s → Ready s d → on (transmitTick d .level) ≡ link-transmitting.transmit (d .sender) true false (sends s) .level
-unfolding transmitTick
-level-is s d p r = on-bit (sent d .level) ∙ ap (λ (o : Sent). o .level) (sent-is s d p r)
-
 module _ {f g : Format} (fit : Fit f g) where
   abbrev Goes : SenderHalf → ReceiverHalf → ℕ → Way → Type 0
   Goes s r now w = Flow fit s r now w
 
-  -- an allowed call at the end that writes
-  write-call : (d : Device) (c : Call) (r : ReceiverHalf) (now : ℕ) (w : Way) → inRange d ≡ true → allowedCall d c ≡ true
+  -- an allowed call at the end that writes ..
+  written-half : (d : Device) (c : Call) (r : ReceiverHalf) (now : ℕ) (w : Way) → inRange d ≡ true → allowedCall d c ≡ true
       → Goes (d .sender) r now w → Goes (senderAfter c (d .sender)) r now (wrote now c w)
   unfolding writeRefusal
-  write-call d Reset r now w h a k = k
-  write-call d (Read address) r now w h a k = k
-  write-call d (Write zero v) r now w h a k =
-      let p = both _ _ a in
-      write-flows fit v k (vacant-is d h (p .0)) (ltb-true _ _ (p .1))
-  write-call d (Write (suc i) v) r now w h a k =
+  written-half d Reset r now w h a k = k
+  written-half d (Read address) r now w h a k = k
+  written-half d (Write zero v) r now w h a k = let p = both _ _ a in write-flows fit v k (vacant-is d h (p .0)) (ltb-true _ _ (p .1))
+  written-half d (Write (suc i) v) r now w h a k =
       subst (λ (b : Bool). Goes (cond b (loaded (d .sender) v) (d .sender)) r now (cond b (logWrite now v w) w)) (sym (not-zero i)) k
-  write-call d (SetPins dsr dcd cts) r now w h a k = k
-  write-call d Transmit r now w h a k = k
-  write-call d (Receive x) r now w h a k = k
-  write-call d Outputs r now w h a k = k
+  written-half d (SetPins dsr dcd cts) r now w h a k = k
+  written-half d Transmit r now w h a k = k
+  written-half d (Receive x) r now w h a k = k
+  written-half d Outputs r now w h a k = k
 
-  -- a call at the end that reads
-  read-call : (d : Device) (c : Call) (s : SenderHalf) (now : ℕ) (w : Way) → inRange d ≡ true
+  write-call : (s : Settings) (d : Device) (c : Call) (r : ReceiverHalf) (now : ℕ) (w : Way) → Ready s d → allowedCall d c ≡ true
+      → Goes (d .sender) r now w → Goes (next d c .sender) r now (wrote now c w)
+  write-call s d c r now w h a k =
+      subst (λ (x : SenderHalf). Goes x r now (wrote now c w)) (sym (call-keeps s d c h a .sender)) (written-half d c r now w (h .within) a k)
+
+  -- .. and at the end that reads
+  read-half : (d : Device) (c : Call) (s : SenderHalf) (now : ℕ) (w : Way) → inRange d ≡ true
       → Goes s (d .receiver) now w → Goes s (receiverAfter c (d .receiver)) now (fetched d c w)
-  read-call d Reset s now w h k = k
-  read-call d (Read zero) s now w h k =
+  read-half d Reset s now w h k = k
+  read-half d (Read zero) s now w h k =
       subst (Goes s (emptied (d .receiver)) now)
       (sym (ap₂ (λ (b : Bool) (v : ℕ). cond b (logRead v w) w) (unread-is d h) (character-is d h)))
       (read-flows fit k)
-  read-call d (Read (suc i)) s now w h k =
+  read-half d (Read (suc i)) s now w h k =
       subst (λ (b : Bool). Goes s (cond b (emptied (d .receiver)) (d .receiver)) now (cond (b && unread d) (logRead (character d) w) w)) (sym (not-zero i)) k
-  read-call d (Write address v) s now w h k = k
-  read-call d (SetPins dsr dcd cts) s now w h k = k
-  read-call d Transmit s now w h k = k
-  read-call d (Receive x) s now w h k = k
-  read-call d Outputs s now w h k = k
+  read-half d (Write address v) s now w h k = k
+  read-half d (SetPins dsr dcd cts) s now w h k = k
+  read-half d Transmit s now w h k = k
+  read-half d (Receive x) s now w h k = k
+  read-half d Outputs s now w h k = k
+
+  read-call : (t : Settings) (d : Device) (c : Call) (s : SenderHalf) (now : ℕ) (w : Way) → Ready t d → allowedCall d c ≡ true
+      → Goes s (d .receiver) now w → Goes s (next d c .receiver) now (fetched d c w)
+  read-call t d c s now w h a k =
+      subst (λ (x : ReceiverHalf). Goes s x now (fetched d c w)) (sym (call-keeps t d c h a .receiver)) (read-half d c s now w (h .within) k)
+
+  -- status bit 1 and what was read
+  way-fetched : (s : SenderHalf) (e : Device) (now : ℕ) (w : Way) → inRange e ≡ true → Goes s (e .receiver) now w → Fetched (unread e) (w .came) (w .read)
+  way-fetched s e now w h k = subst (λ (u : Bool). Fetched u (w .came) (w .read)) (sym (unread-is e h)) (flow-fetched fit k)
 
   -- a joined tick makes d' of the device d that sends, and e' of the device e that is read
   tick-way : (d d′ e e′ : Device) (now : ℕ) (w : Way) → let o = link-transmitting.transmit (d .sender) true false f in
@@ -163,24 +170,18 @@ module _ (a b : Settings) (pa : Proper a) (pb : Proper b) (agree : Agree a b) wh
   step-runs : (w : Bench) (s : Step) → Runs w → allowed a b w s ≡ true → Runs (step w s)
   step-runs w Tick h al = tick-runs w h al
   step-runs w (At A c) h al =
-      let k = call-keeps a (w .pair .a) c (h .a-ready) al in
       record {
-        a-ready = k .ready;
+        a-ready = call-keeps a (w .pair .a) c (h .a-ready) al .ready;
         b-ready = h .b-ready;
-        there = subst (λ (s : SenderHalf). Goes to s (w .pair .b .receiver) (w .now) (wrote (w .now) c (w .there))) (sym (k .sender))
-            (write-call to (w .pair .a) c (w .pair .b .receiver) (w .now) (w .there) (h .a-ready .within) al (h .there));
-        back = subst (λ (r : ReceiverHalf). Goes fro (w .pair .b .sender) r (w .now) (fetched (w .pair .a) c (w .back))) (sym (k .receiver))
-            (read-call fro (w .pair .a) c (w .pair .b .sender) (w .now) (w .back) (h .a-ready .within) (h .back));
+        there = write-call to a (w .pair .a) c (w .pair .b .receiver) (w .now) (w .there) (h .a-ready) al (h .there);
+        back = read-call fro a (w .pair .a) c (w .pair .b .sender) (w .now) (w .back) (h .a-ready) al (h .back);
       }
   step-runs w (At B c) h al =
-      let k = call-keeps b (w .pair .b) c (h .b-ready) al in
       record {
         a-ready = h .a-ready;
-        b-ready = k .ready;
-        there = subst (λ (r : ReceiverHalf). Goes to (w .pair .a .sender) r (w .now) (fetched (w .pair .b) c (w .there))) (sym (k .receiver))
-            (read-call to (w .pair .b) c (w .pair .a .sender) (w .now) (w .there) (h .b-ready .within) (h .there));
-        back = subst (λ (s : SenderHalf). Goes fro s (w .pair .a .receiver) (w .now) (wrote (w .now) c (w .back))) (sym (k .sender))
-            (write-call fro (w .pair .b) c (w .pair .a .receiver) (w .now) (w .back) (h .b-ready .within) al (h .back));
+        b-ready = call-keeps b (w .pair .b) c (h .b-ready) al .ready;
+        there = read-call to b (w .pair .b) c (w .pair .a .sender) (w .now) (w .there) (h .b-ready) al (h .there);
+        back = write-call fro b (w .pair .b) c (w .pair .a .receiver) (w .now) (w .back) (h .b-ready) al (h .back);
       }
 
   all-run : (w : Bench) (ss : List Step) → Runs w → allAllowed a b w ss ≡ true → Runs (runs w ss)
@@ -249,14 +250,10 @@ module _ (a b : Settings) (pa : Proper a) (pb : Proper b) (agree : Agree a b) (d
       }
 
   b-fetched : Fetched (unread (end .pair .b)) (end .there .came) (end .there .read)
-  b-fetched =
-      subst (λ (u : Bool). Fetched u (end .there .came) (end .there .read)) (sym (unread-is (end .pair .b) (ran .b-ready .within)))
-      (flow-fetched (to a b pa pb agree) (ran .there))
+  b-fetched = way-fetched (to a b pa pb agree) (end .pair .a .sender) (end .pair .b) (end .now) (end .there) (ran .b-ready .within) (ran .there)
 
   a-fetched : Fetched (unread (end .pair .a)) (end .back .came) (end .back .read)
-  a-fetched =
-      subst (λ (u : Bool). Fetched u (end .back .came) (end .back .read)) (sym (unread-is (end .pair .a) (ran .a-ready .within)))
-      (flow-fetched (fro a b pa pb agree) (ran .back))
+  a-fetched = way-fetched (fro a b pa pb agree) (end .pair .b .sender) (end .pair .a) (end .now) (end .back) (ran .a-ready .within) (ran .back)
 
   -- what the bench sees of it
   pub bench-sees : Seen a b end

@@ -6,6 +6,7 @@ use native.Mathlib.Omega.{arith}
 use mathlib.Core.Path.{_≡_, refl, ap, ap₂, sym, _∙_}
 use mathlib.Core.Bool.{Bool, true, false}
 use Rattle.line.specs.Sending.{bit, on}
+use Rattle.line.proofs.Bits.{on-bit}
 use Rattle.ins2651.specs.declared.Device.{Device}
 use Rattle.ins2651.specs.declared.Outcome.{Outcome}
 use Rattle.ins2651.specs.Ranges.{inRange, settled}
@@ -31,10 +32,6 @@ settled-in d = go (inRange d) refl
 level-refusal : (x : Bool) → levelRefusal (bit x) ≡ 0
 level-refusal true = refl
 level-refusal false = refl
-
-pub on-bit : (x : Bool) → on (bit x) ≡ x
-on-bit true = refl
-on-bit false = refl
 
 pub transmit-tick-in : (d : Device) → inRange d ≡ true → inRange (transmitTick d .device) ≡ true
 unfolding transmit

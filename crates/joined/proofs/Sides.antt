@@ -16,7 +16,8 @@ use Rattle.link.specs.Parts.{idleSender, idleReceiver}
 use Rattle.link.specs.Transmitting as link-transmitting
 use Rattle.link.specs.Hearing.{arrives}
 use Rattle.link.specs.Hearing as link-hearing
-use Rattle.link.proofs.Choice.{either, all}
+use Rattle.line.proofs.Bits.{on-bit}
+use Rattle.line.proofs.Choice.{either, all}
 use Rattle.ins2651.specs.declared.Flags.{Flags}
 use Rattle.ins2651.specs.declared.Device.{Device}
 use Rattle.ins2651.specs.declared.Outcome.{Outcome}
@@ -35,7 +36,7 @@ use Rattle.ins2651.proofs.Commands.{transmit-stored, receive-stored}
 use Rattle.ins2651.proofs.InRange.{next-in, runs-stay-in-range}
 use Rattle.ins2651.proofs.Leaves.{SameErrors}
 use Rattle.joined.specs.Demand3.{Settings, Proper, setUp, sends, receives}
-use Rattle.joined.proofs.Runs.{on-bit, transmit-tick-in, receive-tick-in}
+use Rattle.joined.proofs.Runs.{transmit-tick-in, receive-tick-in}
 use Rattle.joined.proofs.Ready.{Ready}
 
 -- == set-up ==
@@ -106,24 +107,28 @@ module _ (s : Settings) (d : Device) (p : Proper s) (r : Ready s d) where
   listens = all (all (ap (has 4) (r .command) ∙ receive-stored (s .command) ∙ p .receives) (ap (λ (k : ℕ). eqb k 0) (r .dcd))) (ap on (r .accepted))
 
 -- a side that is ready: its halves are told that they may go on, and nothing else
-pub sent-is : (s : Settings) (d : Device) → Proper s → Ready s d → sent d ≡ link-transmitting.transmit (d .sender) true false (sends s)
+sent-is : (s : Settings) (d : Device) → Proper s → Ready s d → sent d ≡ link-transmitting.transmit (d .sender) true false (sends s)
 sent-is s d p r =
     ap₂ (λ (ready broken : Bool). link-transmitting.transmit (d .sender) ready broken (sendFormat (d .registers))) (may-send s d p r) (no-break s d p r)
     ∙ ap₂ (λ (m n : ℕ). link-transmitting.transmit (d .sender) true false (formatOf m (has 32 n))) (r .mode1) (r .mode2)
 
-pub received-is : (s : Settings) (d : Device) (x : Bool) → Proper s → Ready s d → received d x ≡ link-hearing.receive (d .receiver) true (receives s) x
+received-is : (s : Settings) (d : Device) (x : Bool) → Proper s → Ready s d → received d x ≡ link-hearing.receive (d .receiver) true (receives s) x
 received-is s d x p r =
     ap (λ (live : Bool). link-hearing.receive (d .receiver) live (receiveFormat (d .registers)) x) (listens s d p r)
     ∙ ap₂ (λ (m n : ℕ). link-hearing.receive (d .receiver) true (formatOf m (has 16 n)) x) (r .mode1) (r .mode2)
 
+-- the level that it sends
+pub level-is : (s : Settings) (d : Device) → Proper s → Ready s d → on (transmitTick d .level) ≡ link-transmitting.transmit (d .sender) true false (sends s) .level
+unfolding transmitTick
+level-is s d p r = on-bit (sent d .level) ∙ ap (λ (o : Sent). o .level) (sent-is s d p r)
+
 -- == a joined tick ==
 
 -- a joined tick of one side: the transmit tick, and a receive tick of the level x that brings no fault
-pub record Ticked (s : Settings) (d : Device) (x : Bool) : Type 0 where
+pub record SideTicked (s : Settings) (d : Device) (x : Bool) : Type 0 where
   pub ready : Ready s (receiveTick (transmitTick d .device) x)
   pub sender : receiveTick (transmitTick d .device) x .sender ≡ link-transmitting.transmit (d .sender) true false (sends s) .half
   pub receiver : receiveTick (transmitTick d .device) x .receiver ≡ link-hearing.receive (d .receiver) true (receives s) x .half
-  pub level : on (transmitTick d .level) ≡ link-transmitting.transmit (d .sender) true false (sends s) .level
 
 -- an arrival with a wrong parity or a stop of 0
 abbrev pub faulty : Arrival → Bool
@@ -144,7 +149,7 @@ noted-same f o (Character a) n q =
 pub tick-keeps : (s : Settings) (d : Device) (x : Bool) → Proper s → Ready s d
     → arrives faulty (link-hearing.receive (d .receiver) true (receives s) x .heard) ≡ false
     → link-hearing.receive (d .receiver) true (receives s) x .overrun ≡ false
-    → Ticked s d x
+    → SideTicked s d x
 unfolding transmitTick receiveTick
 tick-keeps s d x p r fine empty =
     let went = sent-is s d p r in
@@ -166,5 +171,4 @@ tick-keeps s d x p r fine empty =
       };
       sender = ap (λ (o : Sent). o .half) went;
       receiver = ap (λ (o : Received). o .half) came;
-      level = on-bit (sent d .level) ∙ ap (λ (o : Sent). o .level) went;
     }

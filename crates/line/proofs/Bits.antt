@@ -5,11 +5,15 @@ use native.Mathlib.Omega.{arith}
 use mathlib.Core.Path.{_≡_, refl}
 use mathlib.Core.Bool.{Bool, true, false}
 use lib.Dec.{eqb}
-use Rattle.line.specs.Sending.{bit}
+use Rattle.line.specs.Sending.{bit, on}
 
 pub is-one : (b : Bool) → eqb (bit b) 1 ≡ b
 is-one true = refl
 is-one false = refl
+
+pub on-bit : (b : Bool) → on (bit b) ≡ b
+on-bit true = refl
+on-bit false = refl
 
 pub at-most-one : (b : Bool) → bit b ≤ 1
 at-most-one true = omega arith

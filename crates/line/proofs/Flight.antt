@@ -19,6 +19,7 @@ use Rattle.line.specs.Sending.{bit, on, half, parityBits, stopSample, cu
 use Rattle.line.specs.Receiving.{searching, afterMark, quiet, under, sample, tell, arrivals, after}
 use Rattle.line.specs.Arrived.{Arrived, delivered}
 use Rattle.line.specs.Sees.{Sees, Alike}
+use Rattle.line.proofs.Choice.{either}
 use Rattle.line.proofs.Bits.{is-one, at-most-one}
 use Rattle.line.proofs.Parts.{part-data, part-parity, part-stop}
 use Rattle.line.proofs.Frames.{length-listed, listed-append}
@@ -87,15 +88,11 @@ bringing x a = record { next = afterMark x; heard = Character (a .arrival) }
 abbrev Brings : Bool → Sampled → Type 0
 Brings x o = (k : ℕ) (a : Arrived) → tell k (o .heard) [] ≡ a ∷ [] → o ≡ bringing x a
 
-either : (x t : Bool) {o u : Sampled} → Brings x o → Brings x u → Brings x (cond t o u)
-either x true p q = p
-either x false p q = q
-
 under-brings : (f : Format) (c m v w : ℕ) (x : Bool) → Brings x (under f c m v w x)
 unfolding part
-under-brings f zero zero v w x = either x x (λ k a e. cc) (λ k a e. cc)
+under-brings f zero zero v w x = either (Brings x) x (λ k a e. cc) (λ k a e. cc)
 under-brings f zero (suc i) v w x =
-    either x (ltb i (f .length)) (λ k a e. cc) (either x (ltb i (f .length + parityBits f)) (λ k a e. cc) (λ k a e. ap (bringing x) (head-eq-of-cons-eq e)))
+    either (Brings x) (ltb i (f .length)) (λ k a e. cc) (either (Brings x) (ltb i (f .length + parityBits f)) (λ k a e. cc) (λ k a e. ap (bringing x) (head-eq-of-cons-eq e)))
 under-brings f (suc c) m v w x = λ k a e. cc
 
 edge-brings : (f : Format) (x : Bool) → Brings x (cond x (quiet searching) (under f (half f) 0 0 0 false))
@@ -105,8 +102,8 @@ edge-brings f false = under-brings f (half f) 0 0 0 false
 sample-brings : (f : Format) (r : Receiver) (x : Bool) → Brings x (sample f r x)
 unfolding sample
 sample-brings f r x =
-    either x (eqb (r .phase) 0) (λ k a e. cc)
-    (either x (eqb (r .phase) 1) (edge-brings f x) (under-brings f (r .countdown) (r .look) (r .value) (r .wrong) x))
+    either (Brings x) (eqb (r .phase) 0) (λ k a e. cc)
+    (either (Brings x) (eqb (r .phase) 1) (edge-brings f x) (under-brings f (r .countdown) (r .look) (r .value) (r .wrong) x))
 
 -- == where each look sees its bit ==
 

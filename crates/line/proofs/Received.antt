@@ -17,6 +17,7 @@ use Rattle.line.specs.Sending.{bit, on, differ, half, parityBits, stopSa
 use Rattle.line.specs.Receiving.{waiting, searching, assembling, afterMark, quiet, lookAt, sample, tell, arrivals}
 use Rattle.line.specs.Reading.{lev, find, first, seen, number, valueAt, wrongParityAt, arrivedAt, resume, startAt, gather, readFrom, reading}
 use Rattle.line.specs.Arrived.{Arrived}
+use Rattle.line.proofs.Bits.{on-bit}
 use Rattle.line.proofs.Parts.{part-data, part-parity, part-stop}
 use Rattle.line.proofs.Samples.{sample-under}
 
@@ -38,10 +39,6 @@ unfolding sample
 waits f [] i = refl
 waits f (true ∷ xs) i = rw add-zero
 waits f (false ∷ xs) i = waits f xs (suc i) ∙ ap (λ (j : ℕ). arrivals f searching j (drop (suc (find true xs)) xs)) (omega arith)
-
-on-bit : (b : Bool) → on (bit b) ≡ b
-on-bit true = refl
-on-bit false = refl
 
 module _ (f : Format) (ls : List Bool) where
   -- what the levels from index i on bring

@@ -23,7 +23,7 @@ use Rattle.link.specs.declared.Received.{Received}
 use Rattle.link.specs.declared.Sent.{Sent}
 use Rattle.link.specs.Parts.{noFrame, noFormat, dropped}
 use Rattle.link.specs.Transmitting.{nextPlace, frameNext, frameTick, beginTick, breakTick, markTick, transmit}
-use Rattle.link.proofs.Choice.{either}
+use Rattle.line.proofs.Choice.{either}
 use Rattle.link.specs.Hearing.{underWay, formatFor, stepped, arrives, take, hear, receive}
 
 -- == the sender ==

@@ -351,6 +351,19 @@ impl Chip {
     }
 }
 
+/// A chip just reset, then given both modes and a command, with all pins low.
+pub fn set_up(mode1: u8, mode2: u8, command: u8) -> Chip {
+    let mut chip = Chip::just_reset();
+    let refusals = [
+        chip.write(2, mode1),
+        chip.write(2, mode2),
+        chip.write(3, command),
+        chip.set_pins(0, 0, 0),
+    ];
+    assert_eq!(refusals, [DONE; 4]);
+    chip
+}
+
 /// Joined ticks of two chips: both transmit ticks, then each receiver takes the
 /// other's level ("Receiving").
 pub fn joined_ticks(a: &mut Chip, b: &mut Chip, count: u32) {

@@ -1,7 +1,7 @@
 //! The chip, call by call: the cases of the document's section "The bench
 //! cases", the session it works out, and its rules one by one.
 
-use model::chip::Chip;
+use model::chip::{set_up, Chip};
 use model::{frame, read, Format};
 
 // The status bits.
@@ -20,14 +20,9 @@ const RECEIVE: u8 = 4;
 const BREAK: u8 = 8;
 const RESET_ERROR: u8 = 16;
 
-/// Reset, both modes, a command and low pins, with the change-mark that the pins
-/// leave read away.
-fn set_up(mode1: u8, mode2: u8, command: u8) -> Chip {
-    let mut chip = Chip::just_reset();
-    assert_eq!(chip.write(2, mode1), 0);
-    assert_eq!(chip.write(2, mode2), 0);
-    assert_eq!(chip.write(3, command), 0);
-    assert_eq!(chip.set_pins(0, 0, 0), 0);
+/// A chip set up, with the change-mark that the pins leave read away.
+fn unmarked(mode1: u8, mode2: u8, command: u8) -> Chip {
+    let mut chip = set_up(mode1, mode2, command);
     let ready = command & TRANSMIT;
     assert_eq!(chip.read(1), (0, PINS + MARK + ready));
     assert_eq!(chip.read(1), (0, PINS + ready));
@@ -35,11 +30,11 @@ fn set_up(mode1: u8, mode2: u8, command: u8) -> Chip {
 }
 
 fn sender(mode1: u8) -> Chip {
-    set_up(mode1, 0, TRANSMIT)
+    unmarked(mode1, 0, TRANSMIT)
 }
 
 fn receiver(mode1: u8) -> Chip {
-    set_up(mode1, 0, RECEIVE)
+    unmarked(mode1, 0, RECEIVE)
 }
 
 /// The value of a read that is done.
@@ -279,7 +274,7 @@ fn the_worked_session() {
 fn busy_chips() -> Vec<Chip> {
     let mut chips = vec![Chip::just_reset()];
     for (mode1, mode2) in [(77, 0), (127, 0), (254, 48)] {
-        let mut chip = set_up(mode1, mode2, 39);
+        let mut chip = unmarked(mode1, mode2, 39);
         let line = [
             recording(&[30, 1]),
             recording(&[300, 1]),
@@ -487,7 +482,7 @@ fn internal_clock_makes_the_factor_16() {
             (48 + 207, 16, 16),
             (207, factor, factor),
         ] {
-            let mut chip = set_up(mode1, mode2, TRANSMIT + RECEIVE);
+            let mut chip = unmarked(mode1, mode2, TRANSMIT + RECEIVE);
             let levels = send_frame(&mut chip, 165);
             assert_eq!(levels, numbers(frame(&plain(sent), 165)));
             get(&mut chip, 0);
@@ -508,14 +503,14 @@ fn one_and_a_half_stop_bits() {
         (143, 0, 672),
         (143, 32, 168),
     ] {
-        let mut chip = set_up(mode1, mode2, TRANSMIT);
+        let mut chip = unmarked(mode1, mode2, TRANSMIT);
         assert_eq!(send_frame(&mut chip, 65).len(), length);
     }
 }
 
 #[test]
 fn reset_error_acts_once_and_reads_back_as_0() {
-    let mut chip = set_up(93, 0, RECEIVE);
+    let mut chip = unmarked(93, 0, RECEIVE);
     // 8 bits odd: two characters 0 of wrong parity and with a stop of 0.
     for _ in 0..2 {
         hear(&mut chip, &recording(&[11]));
@@ -714,7 +709,7 @@ fn outputs() {
 fn what_holds_a_character_back() {
     let levels = numbers(frame(&plain(1), 65));
     // Transmit off, then CTS high, then no mode.
-    let mut chip = set_up(77, 0, 0);
+    let mut chip = unmarked(77, 0, 0);
     put(&mut chip, 0, 65);
     assert_eq!(send(&mut chip, 20), vec![1; 20]);
     put(&mut chip, 3, TRANSMIT);
@@ -785,7 +780,7 @@ fn the_next_frame_has_the_new_mode() {
 #[test]
 fn break_and_guard() {
     for (mode1, mode2, factor) in [(77, 0, 1), (78, 0, 16), (79, 0, 64), (79, 32, 16)] {
-        let mut chip = set_up(mode1, mode2, TRANSMIT + BREAK);
+        let mut chip = unmarked(mode1, mode2, TRANSMIT + BREAK);
         put(&mut chip, 0, 0);
         assert_eq!(send(&mut chip, 100), vec![0; 100]);
         // The guard is F ticks of 1, then the frame begins.
@@ -806,7 +801,7 @@ fn the_guard_falls_whatever_holds_the_sender() {
         |chip| put(chip, 3, BREAK),
     ];
     for hold in holds {
-        let mut chip = set_up(78, 0, TRANSMIT + BREAK);
+        let mut chip = unmarked(78, 0, TRANSMIT + BREAK);
         put(&mut chip, 0, 0);
         send(&mut chip, 3);
         put(&mut chip, 3, TRANSMIT);
@@ -822,7 +817,7 @@ fn the_guard_falls_whatever_holds_the_sender() {
 #[test]
 fn the_guard_outlasts_a_mode_write_and_is_set_anew() {
     // 16 ticks of guard, also under a factor of 1.
-    let mut chip = set_up(78, 0, TRANSMIT + BREAK);
+    let mut chip = unmarked(78, 0, TRANSMIT + BREAK);
     send(&mut chip, 1);
     put(&mut chip, 2, 77);
     put(&mut chip, 3, TRANSMIT);

@@ -3,17 +3,8 @@
 
 use std::collections::VecDeque;
 
-use model::chip::{joined_ticks, Chip};
+use model::chip::{joined_ticks, set_up, Chip};
 use model::{Format, Generator};
-
-fn set_up(mode1: u8, mode2: u8, command: u8) -> Chip {
-    let mut chip = Chip::just_reset();
-    assert_eq!(chip.write(2, mode1), 0);
-    assert_eq!(chip.write(2, mode2), 0);
-    assert_eq!(chip.write(3, command), 0);
-    assert_eq!(chip.set_pins(0, 0, 0), 0);
-    chip
-}
 
 /// What a read would answer, with the chip left as it is.
 fn peek(chip: &Chip, address: u8) -> u8 {

@@ -3,7 +3,7 @@
 //! chips joined answer in a few bench cases, as text with tabs: what the program
 //! `run_cases` has to write.
 
-use model::chip::{joined_ticks, Chip};
+use model::chip::{joined_ticks, set_up, Chip};
 use model::{frame, read, Character, Format, Generator};
 
 /// The flags at their places in the status register: framing 5, parity 3.
@@ -121,16 +121,6 @@ fn sum(characters: &[Character]) -> u32 {
         }
     }
     sum
-}
-
-/// A chip just reset, then given both modes and a command, with all pins low.
-fn set_up(mode1: u8, mode2: u8, command: u8) -> Chip {
-    let mut chip = Chip::just_reset();
-    chip.write(2, mode1);
-    chip.write(2, mode2);
-    chip.write(3, command);
-    chip.set_pins(0, 0, 0);
-    chip
 }
 
 /// Receive ticks, one for each of `samples`.
