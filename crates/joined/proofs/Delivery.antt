@@ -4,12 +4,13 @@
 use Prim.Native.Nat.{ℕ, suc, _+_, _*_, _/_, _%_, _^_, _≤_, _<_, max}
 use native.Mathlib.Omega.{arith}
 use mathlib.Core.Path.{_≡_, refl, ap, ap₂, sym, subst, _∙_}
-use mathlib.Core.Bool.{Bool, true, false, cond, not, _&&_}
+use mathlib.Core.Bool.{Bool, true, false, cond, not, _&&_, _||_}
 use mathlib.Core.List.{List, [], _∷_, map}
 use lib.Dec.{ltb}
 use borrow.Author.Tests.{ltb-true, ltb-false, lt-ltb}
 use Rattle.line.specs.declared.Format.{Format}
 use Rattle.line.specs.declared.Receiver.{Receiver}
+use Rattle.line.specs.declared.Arrival.{Arrival}
 use Rattle.line.specs.declared.Heard.{Heard}
 use Rattle.line.specs.declared.Heard.the-variants.{Character}
 use Rattle.line.specs.Sending.{bit, on, half, cut, frameLength, stopSample, level, listed}
@@ -31,7 +32,10 @@ use Rattle.link.proofs.Halves.{transmit-under, length-bound, frameOf, frame-goe
 use Rattle.joined.specs.Bench.{Entry, Way, nothingYet, logWrite, logArrival, logRead}
 use Rattle.joined.specs.Demand3
 use Rattle.joined.specs.Demand3.{latest, over, Answers, Answered, none, one, Delivered, due, values, Fetched, FirstWrites}
-use Rattle.joined.proofs.Sides.{faulty}
+
+-- an arrival with a wrong parity or a stop of 0
+abbrev pub faulty : Arrival → Bool
+faulty a = a .parity || a .framing
 
 -- a character that is read, or not: what the receiving half holds, what came and what was read
 pub data Held : ℕ → ℕ → List Entry → List ℕ → Type 0 where

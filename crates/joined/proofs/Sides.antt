@@ -6,7 +6,6 @@ use mathlib.Core.Path.{_≡_, refl, sym, ap, ap₂, subst, _∙_}
 use mathlib.Core.Bool.{Bool, true, false, cond, not, _||_}
 use mathlib.Core.List.{List, [], _∷_}
 use lib.Dec.{eqb}
-use Rattle.line.specs.declared.Arrival.{Arrival}
 use Rattle.line.specs.declared.Heard.{Heard}
 use Rattle.line.specs.declared.Heard.the-variants.{Nothing, Character}
 use Rattle.line.specs.Sending.{bit, on}
@@ -37,6 +36,7 @@ use Rattle.ins2651.proofs.InRange.{next-in, runs-stay-in-range}
 use Rattle.ins2651.proofs.Leaves.{SameErrors}
 use Rattle.joined.specs.Demand3.{Settings, Proper, setUp, sends, receives}
 use Rattle.joined.proofs.Runs.{transmit-tick-in, receive-tick-in}
+use Rattle.joined.proofs.Delivery.{faulty}
 use Rattle.joined.proofs.Ready.{Ready}
 
 -- == set-up ==
@@ -129,10 +129,6 @@ pub record SideTicked (s : Settings) (d : Device) (x : Bool) : Type 0 where
   pub ready : Ready s (receiveTick (transmitTick d .device) x)
   pub sender : receiveTick (transmitTick d .device) x .sender ≡ link-transmitting.transmit (d .sender) true false (sends s) .half
   pub receiver : receiveTick (transmitTick d .device) x .receiver ≡ link-hearing.receive (d .receiver) true (receives s) x .half
-
--- an arrival with a wrong parity or a stop of 0
-abbrev pub faulty : Arrival → Bool
-faulty a = a .parity || a .framing
 
 neither : (a b : Bool) → (a || b) ≡ false → (a ≡ false) × (b ≡ false)
 neither true b e = absurd (omega (arith, ap bit e))
