@@ -6,44 +6,22 @@ use native.Mathlib.Omega.{arith}
 use mathlib.Core.Path.{_≡_, refl, ap, ap₂, sym, _∙_}
 use mathlib.Core.Bool.{Bool, true, false}
 use Rattle.line.specs.Sending.{bit, on}
-use Rattle.line.proofs.Bits.{on-bit}
 use Rattle.ins2651.specs.declared.Device.{Device}
-use Rattle.ins2651.specs.declared.Outcome.{Outcome}
 use Rattle.ins2651.specs.Ranges.{inRange, settled}
-use Rattle.ins2651.specs.Refusals.{levelRefusal}
 use Rattle.ins2651.specs.Ticks.{sent, transmitTick, transmit, receiveTick, receive}
-use Rattle.ins2651.specs.Runs.{Transmit, Receive}
-use Rattle.ins2651.proofs.Settled.{settled-is, settled-out, reset-in}
-use Rattle.ins2651.proofs.Done.{done-receive}
-use Rattle.ins2651.proofs.InRange.{next-in}
+use Rattle.ins2651.proofs.Settled.{settled-is, settled-in}
+use Rattle.ins2651.proofs.Done.{does-receive}
+use Rattle.ins2651.proofs.InRange.{transmitted-in, received-in}
 use Rattle.joined.specs.declared.Pair.{Pair}
 use Rattle.joined.specs.declared.Joined.{Joined}
 use Rattle.joined.specs.Joining.{settledPair, joinedTick, joinedTicks, tick, ticks}
 
 -- == ranges ==
 
-pub settled-in : (d : Device) → inRange (settled d) ≡ true
-settled-in d = go (inRange d) refl
-  where
-    go : (b : Bool) → inRange d ≡ b → inRange (settled d) ≡ true
-    go true h = ap inRange (settled-is d h) ∙ h
-    go false h = ap inRange (settled-out d h) ∙ reset-in
-
-level-refusal : (x : Bool) → levelRefusal (bit x) ≡ 0
-level-refusal true = refl
-level-refusal false = refl
-
-pub transmit-tick-in : (d : Device) → inRange d ≡ true → inRange (transmitTick d .device) ≡ true
-unfolding transmit
-transmit-tick-in d h = ap (λ (e : Device). inRange (transmitTick e .device)) (sym (settled-is d h)) ∙ next-in d Transmit h
-
--- the receive call of a device in range
-received-in : (d : Device) (x : Bool) → inRange d ≡ true → receive d (bit x) .device ≡ receiveTick d (on (bit x))
-received-in d x h =
-    ap (λ (o : Outcome). o .device) (done-receive d (bit x) (level-refusal x)) ∙ ap (λ (e : Device). receiveTick e (on (bit x))) (settled-is d h)
-
-pub receive-tick-in : (d : Device) (x : Bool) → inRange d ≡ true → inRange (receiveTick d x) ≡ true
-receive-tick-in d x h = ap (λ (y : Bool). inRange (receiveTick d y)) (sym (on-bit x)) ∙ ap inRange (sym (received-in d x h)) ∙ next-in d (Receive (bit x)) h
+-- a receive call with a level
+received-is : (d : Device) (x : Bool) → inRange d ≡ true → receive d (bit x) .device ≡ receiveTick d (on (bit x))
+received-is d true h = does-receive d h 1 refl
+received-is d false h = does-receive d h 0 refl
 
 -- both devices are in range
 pub record BothIn (p : Pair) : Type 0 where
@@ -60,8 +38,8 @@ joined-in : (p : Pair) → BothIn p → BothIn (joinedTick p .pair)
 unfolding joinedTick
 joined-in p h =
     record {
-      a = receive-tick-in (transmitTick (p .a) .device) (on (transmitTick (p .b) .level)) (transmit-tick-in (p .a) (h .a));
-      b = receive-tick-in (transmitTick (p .b) .device) (on (transmitTick (p .a) .level)) (transmit-tick-in (p .b) (h .b));
+      a = received-in (transmitTick (p .a) .device) (on (transmitTick (p .b) .level)) (transmitted-in (p .a) (h .a));
+      b = received-in (transmitTick (p .b) .device) (on (transmitTick (p .a) .level)) (transmitted-in (p .b) (h .b));
     }
 
 -- == one tick ==
@@ -70,7 +48,7 @@ joined-in p h =
 end-is : (d e : Device) → receive (transmit d .device) (transmit e .level) .device
     ≡ receiveTick (transmitTick (settled d) .device) (on (transmitTick (settled e) .level))
 unfolding transmit transmitTick
-end-is d e = received-in (transmitTick (settled d) .device) (sent (settled e) .level) (transmit-tick-in (settled d) (settled-in d))
+end-is d e = received-is (transmitTick (settled d) .device) (sent (settled e) .level) (transmitted-in (settled d) (settled-in d))
 
 pub tick-is : (p : Pair) → tick p ≡ joinedTick (settledPair p)
 unfolding tick joinedTick transmit
