@@ -3,9 +3,11 @@
 //!
 //! It covers the sections "Sending, by transmit ticks" and "Receiving, by
 //! receive ticks" of document 01, for a receiver that is on throughout
-//! and keeps one mode. The module `chip` has the whole chip.
+//! and keeps one mode. The module `chip` has the whole chip, and `session` the
+//! session program.
 
 pub mod chip;
+pub mod session;
 
 /// How characters are put on the line. `stop` is in ticks, not in bits, so
 /// that one and a half needs no fraction (with a factor of 1 it counts as 1).

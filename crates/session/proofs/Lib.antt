@@ -1,0 +1,3 @@
+pub mod Decimals
+pub mod Puts
+pub mod Feeding

@@ -1,0 +1,505 @@
+// A session: document 01, "The session text", over two joined devices. The input comes in pieces of any size: `begin`,
+// `feed` for each piece, `finish`. Every call takes any number in any field, and none is refused: a refused line is
+// answered in the text.
+ghost use mathlib.Core.Path.{_≡_};
+ghost use mathlib.Core.List.{[], _∷_};
+ghost use Prim.Native.Nat.{_+_, _%_, _≤_, _<_};
+ghost use lib.ListN.{length, take};
+ghost use Rattle.session.specs.Records;
+ghost use Rattle.session.specs.Calls;
+ghost use Rattle.session.specs.Text;
+ghost use Rattle.session.specs.Text.{Put, Spoke};
+ghost use Rattle.session.specs.Bytes;
+use fields::Field;
+use fields::Fields;
+use ins2651::Device;
+use ins2651::Outcome;
+use joined::Pair;
+
+// A line's record. A unit is its letter, 65 or 66.
+pub enum Record {
+    Write(u8, u8, u8),
+    Read(u8, u8),
+    Pins(u8, u8, u8, u8),
+    Reset(u8),
+    Ticks(u16),
+    Shapeless,
+}
+
+// What is said of a line: nothing where it is done, unit, address and value of a read, or the number of its refusal.
+pub enum Said {
+    Nothing,
+    Value(u8, u8, u8),
+    Refusal(u8),
+}
+
+// What a line does: the pair after it, and what is said.
+pub struct Reply {
+    pub pair: Pair,
+    pub said: Said,
+}
+
+// A session between two bytes: the two devices, the lines taken and those of them refused, and the line under way: its
+// length, where 65 says over 64, and its fields.
+#[repr(C)]
+pub struct Session {
+    pub pair: Pair,
+    pub lines: u16,
+    pub refusals: u16,
+    pub length: u8,
+    pub fields: Fields,
+}
+
+// The session after a byte, and where the text ends.
+pub struct Turn {
+    pub session: Session,
+    pub at: usize,
+}
+
+// What a piece did: the session after it, how many of its bytes were taken, how many bytes of text stand in the buffer.
+#[repr(C)]
+pub struct Fed {
+    pub session: Session,
+    pub used: usize,
+    pub at: usize,
+}
+
+// == records ==
+
+fn is_unit(f: Field) -> bool
+    ensures { λ r. ⌜ r ≡ Records.isUnit f ⌝ }
+{
+    (f.letter == 65) | (f.letter == 66)
+}
+
+// 1 to 5 digits, not above the limit.
+fn up_to(limit: u32, f: Field) -> bool
+    ensures { λ r. ⌜ r ≡ Records.upTo limit f ⌝ }
+{
+    (f.size <= 5) & (f.number <= limit)
+}
+
+// A number below 256 as a byte.
+fn byte_of(f: Field) -> u8
+    ensures { λ r. ⌜ r ≡ Records.byteOf f ⌝ }
+{
+    (f.number % 256) as u8
+}
+
+fn count_of(f: Field) -> u16
+    ensures { λ r. ⌜ r ≡ Records.countOf f ⌝ }
+{
+    (f.number % 65536) as u16
+}
+
+// Z unit; L count.
+fn two(k: Field, u: Field) -> Record
+    ensures { λ r. ⌜ r ≡ Records.two k u ⌝ }
+{
+    let z = (k.letter == 90) & is_unit(u);
+    if z {
+        return Record::Reset(u.letter);
+    }
+    let l = (k.letter == 76) & up_to(65535, u);
+    if l {
+        return Record::Ticks(count_of(u));
+    }
+    Record::Shapeless
+}
+
+// R unit addr.
+fn three(k: Field, u: Field, a: Field) -> Record
+    ensures { λ r. ⌜ r ≡ Records.three k u a ⌝ }
+{
+    let known = (k.letter == 82) & is_unit(u) & up_to(255, a);
+    if known {
+        return Record::Read(u.letter, byte_of(a));
+    }
+    Record::Shapeless
+}
+
+// W unit addr value.
+fn four(k: Field, u: Field, a: Field, v: Field) -> Record
+    ensures { λ r. ⌜ r ≡ Records.four k u a v ⌝ }
+{
+    let known = (k.letter == 87) & is_unit(u) & up_to(255, a) & up_to(255, v);
+    if known {
+        return Record::Write(u.letter, byte_of(a), byte_of(v));
+    }
+    Record::Shapeless
+}
+
+// P unit dsr dcd cts.
+fn five(k: Field, u: Field, dsr: Field, dcd: Field, cts: Field) -> Record
+    ensures { λ r. ⌜ r ≡ Records.five k u dsr dcd cts ⌝ }
+{
+    let known = (k.letter == 80) & is_unit(u) & up_to(255, dsr) & up_to(255, dcd) & up_to(255, cts);
+    if known {
+        return Record::Pins(u.letter, byte_of(dsr), byte_of(dcd), byte_of(cts));
+    }
+    Record::Shapeless
+}
+
+// The record of the line that these are the fields of.
+fn record_of(f: Fields) -> Record
+    ensures { λ r. ⌜ r ≡ Records.heldRecord f ⌝ }
+{
+    if f.count == 1 {
+        return two(f.first, f.last);
+    }
+    if f.count == 2 {
+        return three(f.first, f.second, f.last);
+    }
+    if f.count == 3 {
+        return four(f.first, f.second, f.third, f.last);
+    }
+    if f.count == 4 {
+        return five(f.first, f.second, f.third, f.fourth, f.last);
+    }
+    Record::Shapeless
+}
+
+// == calls ==
+
+// The device of a unit: A, or else B.
+fn device_of(p: Pair, unit: u8) -> Device
+    ensures { λ r. ⌜ r ≡ Calls.deviceOf p unit ⌝ }
+{
+    if unit == 65 {
+        return p.a;
+    }
+    p.b
+}
+
+fn put_back(p: Pair, unit: u8, d: Device) -> Pair
+    ensures { λ r. ⌜ r ≡ Calls.putBack p unit d ⌝ }
+{
+    let mut next = p;
+    if unit == 65 {
+        next.a = d;
+        return next;
+    }
+    next.b = d;
+    next
+}
+
+// What is said of a call that would say this if it were done.
+fn verdict(refusal: u8, said: Said) -> Said
+    ensures { λ r. ⌜ r ≡ Calls.verdict refusal said ⌝ }
+{
+    if refusal == 0 {
+        return said;
+    }
+    Said::Refusal(refusal)
+}
+
+fn replied(p: Pair, unit: u8, d: Device, said: Said) -> Reply
+    ensures { λ r. ⌜ r ≡ Calls.replied p unit d said ⌝ }
+{
+    Reply {
+        pair: put_back(p, unit, d),
+        said,
+    }
+}
+
+fn answered(p: Pair, unit: u8, o: Outcome) -> Reply
+    ensures { λ r. ⌜ r ≡ Calls.answered p unit o ⌝ }
+{
+    replied(p, unit, o.device, verdict(o.refusal, Said::Nothing))
+}
+
+fn read(p: Pair, unit: u8, address: u8) -> Reply
+    ensures { λ r. ⌜ r ≡ Calls.reading p unit address ⌝ }
+{
+    let a = ins2651::read(device_of(p, unit), address);
+    replied(
+        p,
+        unit,
+        a.device,
+        verdict(a.refusal, Said::Value(unit, address, a.value)),
+    )
+}
+
+// A line that is refused for itself.
+fn refused(p: Pair, n: u8) -> Reply
+    ensures { λ r. ⌜ r ≡ Calls.refused p n ⌝ }
+{
+    Reply {
+        pair: p,
+        said: Said::Refusal(n),
+    }
+}
+
+// What a record does. A line that has none's shape is refusal 6.
+fn obey(p: Pair, r: Record) -> Reply
+    ensures { λ a. ⌜ a ≡ Calls.obey p r ⌝ }
+{
+    match r {
+        Record::Write(unit, address, value) => {
+            answered(p, unit, ins2651::write(device_of(p, unit), address, value))
+        }
+        Record::Read(unit, address) => read(p, unit, address),
+        Record::Pins(unit, dsr, dcd, cts) => {
+            answered(
+                p,
+                unit,
+                ins2651::set_pins(device_of(p, unit), dsr, dcd, cts),
+            )
+        }
+        Record::Reset(unit) => replied(p, unit, ins2651::reset(), Said::Nothing),
+        Record::Ticks(count) => Reply {
+            pair: joined::run(p, count),
+            said: Said::Nothing,
+        },
+        Record::Shapeless => refused(p, 6),
+    }
+}
+
+// == text ==
+
+fn put(out: &mut [u8], at: usize, b: u8) -> usize
+    requires { ⌜ at < length (now out) ⌝ }
+    ensures { λ r. ⌜ Put (now (out .entry)) at (b ∷ []) (now (out .exit)) r ⌝ }
+{
+    out[at] = b;
+    at + 1
+}
+
+// The last digit of a number.
+fn glyph(n: u32) -> u8
+    ensures { λ r. ⌜ r ≡ Text.glyph n ⌝ }
+{
+    48 + (n % 10) as u8
+}
+
+fn decimal(out: &mut [u8], at: usize, n: u32) -> usize
+    requires { ⌜ at + 10 ≤ length (now out) ⌝ }
+    ensures { λ r. ⌜ Put (now (out .entry)) at (Text.decimal n) (now (out .exit)) r ⌝ }
+{
+    let g = glyph(n);
+    if n < 10 {
+        return put(out, at, g);
+    }
+    let e = decimal(out, at, n / 10);
+    put(out, e, g)
+}
+
+fn field(out: &mut [u8], at: usize, n: u32) -> usize
+    requires { ⌜ at + 11 ≤ length (now out) ⌝ }
+    ensures { λ r. ⌜ Put (now (out .entry)) at (9 ∷ Text.decimal n) (now (out .exit)) r ⌝ }
+{
+    let e = put(out, at, 9);
+    decimal(out, e, n)
+}
+
+// The two numbers that end a line.
+fn numbers(out: &mut [u8], at: usize, m: u32, n: u32) -> usize
+    requires { ⌜ at + 23 ≤ length (now out) ⌝ }
+    ensures { λ r. ⌜ Put (now (out .entry)) at (Text.numbers m n) (now (out .exit)) r ⌝ }
+{
+    let e = field(out, at, m);
+    let f = field(out, e, n);
+    put(out, f, 10)
+}
+
+fn wide(n: u16) -> u32
+    ensures { λ r. ⌜ r ≡ n ⌝ }
+{
+    n as u32
+}
+
+fn wide_byte(n: u8) -> u32
+    ensures { λ r. ⌜ r ≡ n ⌝ }
+{
+    n as u32
+}
+
+fn say_error(out: &mut [u8], at: usize, line: u16, n: u8) -> usize
+    requires { ⌜ at + 32 ≤ length (now out) ⌝ }
+    ensures { λ r. ⌜ Put (now (out .entry)) at (Text.errorText line n) (now (out .exit)) r ⌝ }
+{
+    let l = wide(line);
+    let m = wide_byte(n);
+    let e = put(out, at, 69);
+    numbers(out, e, l, m)
+}
+
+fn say_value(out: &mut [u8], at: usize, unit: u8, address: u8, v: u8) -> usize
+    requires { ⌜ at + 32 ≤ length (now out) ⌝ }
+    ensures { λ r. ⌜ Put (now (out .entry)) at (Text.readText unit address v) (now (out .exit)) r ⌝ }
+{
+    let m = wide_byte(address);
+    let n = wide_byte(v);
+    let e = put(out, at, 82);
+    let f = put(out, e, 9);
+    let g = put(out, f, unit);
+    numbers(out, g, m, n)
+}
+
+fn say_counts(out: &mut [u8], at: usize, lines: u16, refusals: u16) -> usize
+    requires { ⌜ at + 32 ≤ length (now out) ⌝ }
+    ensures { λ r. ⌜ Put (now (out .entry)) at (Text.countText lines refusals) (now (out .exit)) r ⌝ }
+{
+    let m = wide(lines);
+    let n = wide(refusals);
+    let e = put(out, at, 78);
+    numbers(out, e, m, n)
+}
+
+fn say(out: &mut [u8], at: usize, line: u16, said: Said) -> usize
+    requires { ⌜ at + 32 ≤ length (now out) ⌝ }
+    ensures { λ r. ⌜ Put (now (out .entry)) at (Text.saidText line said) (now (out .exit)) r ⌝ }
+{
+    match said {
+        Said::Nothing => at,
+        Said::Value(unit, address, v) => say_value(out, at, unit, address, v),
+        Said::Refusal(n) => say_error(out, at, line, n),
+    }
+}
+
+// == bytes ==
+
+// Both devices as after reset, and no line yet.
+pub fn begin() -> Session
+    ensures { λ r. ⌜ r ≡ Bytes.fresh ⌝ }
+{
+    Session {
+        pair: Pair {
+            a: ins2651::reset(),
+            b: ins2651::reset(),
+        },
+        lines: 0,
+        refusals: 0,
+        length: 0,
+        fields: fields::empty(),
+    }
+}
+
+// A line's length with one more byte: 65 says over 64.
+fn longer(n: u8) -> u8
+    ensures { λ r. ⌜ r ≡ Bytes.longer n ⌝ }
+{
+    if n < 65 { n + 1 } else { 65 }
+}
+
+// A byte of the line under way.
+fn pushed(s: Session, b: u8) -> Session
+    ensures { λ r. ⌜ r ≡ Bytes.pushed s b ⌝ }
+{
+    let mut next = s;
+    let f = fields::push(s.fields, b);
+    next.length = longer(s.length);
+    next.fields = f;
+    next
+}
+
+// The reply to the line under way.
+fn held_reply(s: Session) -> Reply
+    ensures { λ r. ⌜ r ≡ Bytes.heldReply s ⌝ }
+{
+    if 64 < s.length {
+        return refused(s.pair, 7);
+    }
+    obey(s.pair, record_of(s.fields))
+}
+
+// The refusals so far, with this line's. They are never more than the lines.
+fn counted(n: u16, said: Said) -> u16
+    ensures { λ r. ⌜ r ≡ Bytes.counted n said ⌝ }
+{
+    match said {
+        Said::Nothing => n,
+        Said::Value(_, _, _) => n,
+        Said::Refusal(_) => std::num::wrapping_add_u16(n, 1),
+    }
+}
+
+// The session after a line with this reply.
+fn next_line(s: Session, r: Reply) -> Session
+    requires { ⌜ s .lines < 65535 ⌝ }
+    ensures { λ q. ⌜ q ≡ Bytes.nextLine s r ⌝ }
+{
+    let pair = r.pair;
+    let said = r.said;
+    Session {
+        pair,
+        lines: s.lines + 1,
+        refusals: counted(s.refusals, said),
+        length: 0,
+        fields: fields::empty(),
+    }
+}
+
+// A newline: the line under way is taken.
+fn ended(s: Session, out: &mut [u8], at: usize) -> Turn
+    requires { ⌜ (at + 32 ≤ length (now out)) × (s .lines < 65535) ⌝ }
+    ensures { λ r. ⌜ (r .session ≡ Bytes.ended s) × Put (now (out .entry)) at (Text.saidText (s .lines + 1) (Bytes.heldReply s .said)) (now (out .exit)) (r .at) ⌝ }
+{
+    let r = held_reply(s);
+    let said = r.said;
+    let e = say(out, at, s.lines + 1, said);
+    Turn {
+        session: next_line(s, r),
+        at: e,
+    }
+}
+
+// One byte of the input. After the last line that is taken nothing is looked at.
+fn byte(s: Session, b: u8, out: &mut [u8], at: usize) -> Turn
+    requires { ⌜ at + 32 ≤ length (now out) ⌝ }
+    ensures { λ r. ⌜ (r .session ≡ Bytes.after s b) × Put (now (out .entry)) at (Bytes.said s b) (now (out .exit)) (r .at) ⌝ }
+{
+    if s.lines < 65535 {
+        if b == 10 {
+            return ended(s, out, at);
+        }
+        return Turn {
+            session: pushed(s, b),
+            at,
+        };
+    }
+    Turn { session: s, at }
+}
+
+// Takes the bytes of a piece of the input, in turn, while 32 bytes are left for the text of each. The text stands at the
+// start of the buffer.
+pub fn feed(s: Session, piece: &[u8], out: &mut [u8]) -> Fed
+    ensures { λ r. ⌜ r .used ≡ Bytes.taken s (now (piece .entry)) (length (now (out .entry))) ⌝ }
+    ensures { λ r. ⌜ r .session ≡ Bytes.afterAll s (take (r .used) (now (piece .entry))) ⌝ }
+    ensures { λ r. ⌜ Spoke (now (out .entry)) (Bytes.saidAll s (take (r .used) (now (piece .entry)))) (now (out .exit)) (r .at) ⌝ }
+{
+    let mut session = s;
+    let mut used = 0;
+    let mut at = 0;
+    while used < piece.len() {
+        if out.len() - at < 32 {
+            return Fed { session, used, at };
+        }
+        let t = byte(session, piece[used], out, at);
+        let next = t.session;
+        session = next;
+        at = t.at;
+        used += 1;
+    }
+    Fed { session, used, at }
+}
+
+// Ends the input: the text of its last line, where that lacks its newline, and the counts.
+pub fn finish(s: Session, out: &mut [u8; 64]) -> usize
+    ensures { λ r. ⌜ Spoke (now (out .entry)) (Bytes.lastSaid s) (now (out .exit)) r ⌝ }
+{
+    finish_in(s, out)
+}
+
+fn finish_in(s: Session, out: &mut [u8]) -> usize
+    requires { ⌜ 64 ≤ length (now out) ⌝ }
+    ensures { λ r. ⌜ Spoke (now (out .entry)) (Bytes.lastSaid s) (now (out .exit)) r ⌝ }
+{
+    if 0 < s.length {
+        let t = byte(s, 10, out, 0);
+        let q = t.session;
+        let at = t.at;
+        return say_counts(out, at, q.lines, q.refusals);
+    }
+    say_counts(out, 0, s.lines, s.refusals)
+}

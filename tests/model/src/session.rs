@@ -1,0 +1,159 @@
+//! The session program: the text that two joined chips answer to a text of
+//! records.
+//!
+//! The input is cut into lines first; each line is then read as a record or
+//! refused, and each record acts on the chips, which may refuse it too. The
+//! sections named are those of document 01; where none is named it is "The
+//! session text".
+
+use crate::chip::{joined_ticks, Chip};
+
+/// Lines taken, refused ones too.
+const MOST_LINES: usize = 65_535;
+/// Bytes of a line, its newline not counted.
+const LONGEST_LINE: usize = 64;
+/// Digits of a decimal field.
+const MOST_DIGITS: usize = 5;
+
+// "Refusal numbers": the two that are the session's own.
+const NO_SHAPE: u8 = 6;
+const TOO_LONG: u8 = 7;
+
+#[derive(Clone, Copy)]
+enum Unit {
+    A,
+    B,
+}
+
+/// A line of a known shape.
+enum Record {
+    Write(Unit, u8, u8),
+    Read(Unit, u8),
+    /// The levels of DSR, DCD and CTS, in this order.
+    Pins(Unit, [u8; 3]),
+    Reset(Unit),
+    JoinedTicks(u16),
+}
+
+/// The whole output for the whole input.
+pub fn answer(input: &[u8]) -> Vec<u8> {
+    let mut pair = Pair {
+        a: Chip::just_reset(),
+        b: Chip::just_reset(),
+    };
+    let mut output = String::new();
+    let (mut taken, mut refused) = (0, 0);
+    for line in lines(input).take(MOST_LINES) {
+        taken += 1;
+        match parse(line).and_then(|record| pair.act(record)) {
+            Ok(text) => output += &text,
+            Err(number) => {
+                refused += 1;
+                output += &format!("E\t{taken}\t{number}\n");
+            }
+        }
+    }
+    output += &format!("N\t{taken}\t{refused}\n");
+    output.into_bytes()
+}
+
+/// The lines of `input` without their newlines. The last may lack its own; what
+/// follows a last newline is no line.
+fn lines(input: &[u8]) -> impl Iterator<Item = &[u8]> {
+    input
+        .split_inclusive(|&byte| byte == b'\n')
+        .map(|line| line.strip_suffix(b"\n").unwrap_or(line))
+}
+
+/// The record that a line is, or its refusal: 7 comes before 6.
+fn parse(line: &[u8]) -> Result<Record, u8> {
+    if line.len() > LONGEST_LINE {
+        return Err(TOO_LONG);
+    }
+    record(line).ok_or(NO_SHAPE)
+}
+
+/// The record that a line is, if it has a known shape. The whole line is judged
+/// here, before any chip is asked: 6 comes before a chip's own number.
+fn record(line: &[u8]) -> Option<Record> {
+    let fields: Vec<&[u8]> = line.split(|&byte| byte == b'\t').collect();
+    let record = match fields[..] {
+        [b"W", u, address, value] => Record::Write(unit(u)?, decimal(address)?, decimal(value)?),
+        [b"R", u, address] => Record::Read(unit(u)?, decimal(address)?),
+        [b"P", u, dsr, dcd, cts] => {
+            Record::Pins(unit(u)?, [decimal(dsr)?, decimal(dcd)?, decimal(cts)?])
+        }
+        [b"Z", u] => Record::Reset(unit(u)?),
+        [b"L", count] => Record::JoinedTicks(decimal(count)?),
+        _ => return None,
+    };
+    Some(record)
+}
+
+fn unit(field: &[u8]) -> Option<Unit> {
+    match field {
+        b"A" => Some(Unit::A),
+        b"B" => Some(Unit::B),
+        _ => None,
+    }
+}
+
+/// The number of a decimal field. The type asked for sets its limit: a byte for
+/// addresses, values and levels, 16 bits for counts.
+fn decimal<T: TryFrom<u32>>(field: &[u8]) -> Option<T> {
+    let digits = field.iter().all(u8::is_ascii_digit);
+    if !digits || field.is_empty() || field.len() > MOST_DIGITS {
+        return None;
+    }
+    let number = field
+        .iter()
+        .fold(0, |sum, digit| 10 * sum + u32::from(digit - b'0'));
+    T::try_from(number).ok()
+}
+
+/// The two chips, joined by a line.
+struct Pair {
+    a: Chip,
+    b: Chip,
+}
+
+impl Pair {
+    /// The text that a record answers, which is empty for all but a read, or the
+    /// chip's refusal.
+    fn act(&mut self, record: Record) -> Result<String, u8> {
+        match record {
+            Record::Write(unit, address, value) => done(self.chip(unit).write(address, value))?,
+            Record::Read(unit, address) => {
+                let (refusal, value) = self.chip(unit).read(address);
+                done(refusal)?;
+                return Ok(format!("R\t{}\t{address}\t{value}\n", letter(unit)));
+            }
+            Record::Pins(unit, [dsr, dcd, cts]) => done(self.chip(unit).set_pins(dsr, dcd, cts))?,
+            Record::Reset(unit) => self.chip(unit).reset(),
+            Record::JoinedTicks(count) => joined_ticks(&mut self.a, &mut self.b, count.into()),
+        }
+        Ok(String::new())
+    }
+
+    fn chip(&mut self, unit: Unit) -> &mut Chip {
+        match unit {
+            Unit::A => &mut self.a,
+            Unit::B => &mut self.b,
+        }
+    }
+}
+
+fn letter(unit: Unit) -> char {
+    match unit {
+        Unit::A => 'A',
+        Unit::B => 'B',
+    }
+}
+
+/// A chip's number as a result; 0 is done ("Refusal numbers").
+fn done(number: u8) -> Result<(), u8> {
+    match number {
+        0 => Ok(()),
+        refusal => Err(refusal),
+    }
+}
