@@ -1,3 +1,5 @@
 pub mod Decimals
 pub mod Puts
 pub mod Feeding
+pub mod Cutting
+pub mod Pieces
