@@ -23,6 +23,7 @@ use Rattle.session.specs.declared.Session.{Session}
 use Rattle.session.specs.Records.{recordOf, heldRecord}
 use Rattle.session.specs.Calls.{lineReply}
 use Rattle.session.specs.Text.{saidText, countText}
+use Rattle.session.specs.Rows.{newlines, lacking}
 use Rattle.session.specs.Whole.{unlessEmpty, filled, linesOf, linesTaken, answers, refusals, texts, whole, answerText}
 use Rattle.session.specs.Bytes.{fresh, longer, pushed, heldReply, counted, nextLine, ended, after, said, afterAll, saidAll, lastSaid}
 
@@ -45,6 +46,32 @@ lines-are (b ∷ bs) h = go (eqb b 10) refl (lines-are bs)
     go : (t : Bool) → eqb b 10 ≡ t → ((h : List ℕ) → linesFrom h bs ≡ filled (onto h (parts 10 bs))) → linesFrom h (b ∷ bs) ≡ filled (onto h (parts 10 (b ∷ bs)))
     go true e ih = rw (e, append-nil, ← onto-none 10 bs, filled-more) (ap (λ (x : List (List ℕ)). h ∷ x) (ih []))
     go false e ih = rw (e, onto-first, ih)
+
+input-lines : (input : List ℕ) → linesFrom [] input ≡ linesOf input
+unfolding linesOf
+input-lines input = lines-are input [] ∙ ap filled (onto-none 10 input)
+
+-- 1 for a line that has begun
+abbrev begun : List ℕ → ℕ
+begun [] = 0
+begun (x ∷ xs) = 1
+
+begun-more : (h : List ℕ) (b : ℕ) → begun (h ++ b ∷ []) ≡ 1
+begun-more [] b = refl
+begun-more (x ∷ h) b = refl
+
+count-from : (input h : List ℕ) → length (linesFrom h input) ≡ newlines input + lacking (begun h) input
+count-from [] [] = refl
+count-from [] (x ∷ h) = refl
+count-from (b ∷ bs) h = go (eqb b 10) refl (count-from bs)
+  where
+    go : (t : Bool) → eqb b 10 ≡ t → ((h : List ℕ) → length (linesFrom h bs) ≡ newlines bs + lacking (begun h) bs) → length (linesFrom h (b ∷ bs)) ≡ newlines (b ∷ bs) + lacking (begun h) (b ∷ bs)
+    go true e ih = rw e (omega (arith, ih []))
+    go false e ih = rw (e, ih, begun-more)
+
+-- the input has as many lines as newlines, and one more where the last lacks its own
+pub lines-counted : (input : List ℕ) → length (linesOf input) ≡ newlines input + lacking 0 input
+lines-counted input = ap length (sym (input-lines input)) ∙ count-from input []
 
 -- == what is written from a line on ==
 
@@ -267,8 +294,8 @@ rest-first p ls =
 
 -- in one piece
 pub whole-input : (input : List ℕ) → saidAll fresh input ++ lastSaid (afterAll fresh input) ≡ answerText input
-unfolding answerText linesTaken linesOf
+unfolding answerText linesTaken
 whole-input input =
     claim input fresh [] (record { count = omega arith; few = omega arith; size = refl; held = refl })
     ∙ rest-first (fresh .pair) (take 65535 (linesFrom [] input))
-    ∙ ap (λ ls. whole (take 65535 ls) (answers (fresh .pair) (take 65535 ls))) (lines-are input [] ∙ ap filled (onto-none 10 input))
+    ∙ ap (λ ls. whole (take 65535 ls) (answers (fresh .pair) (take 65535 ls))) (input-lines input)

@@ -3,3 +3,5 @@ pub mod Puts
 pub mod Feeding
 pub mod Cutting
 pub mod Pieces
+pub mod Lines
+pub mod Concrete

@@ -3,5 +3,8 @@ pub mod Calls
 pub mod Text
 pub mod Printed
 pub mod Whole
+pub mod Rows
+pub mod Steps
 pub mod Bytes
+pub mod Ascii
 pub mod Offers
