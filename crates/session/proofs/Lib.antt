@@ -5,3 +5,4 @@ pub mod Cutting
 pub mod Pieces
 pub mod Lines
 pub mod Concrete
+pub mod Parser

@@ -20,7 +20,7 @@ use Rattle.session.proofs.Cutting.{stopped-after, stopped-said, whole-i
 -- == how much a call takes ==
 
 -- at most the piece
-taken-few : (s : Session) (piece : List ℕ) (room : ℕ) → taken s piece room ≤ length piece
+pub taken-few : (s : Session) (piece : List ℕ) (room : ℕ) → taken s piece room ≤ length piece
 taken-few s [] room = omega arith
 taken-few s (b ∷ bs) room = go (ltb room 32) (taken-few (after s b) bs (room - length (said s b)))
   where
@@ -29,8 +29,9 @@ taken-few s (b ∷ bs) room = go (ltb room 32) (taken-few (after s b) bs (room -
     go false h = omega arith
 
 -- some of it, where the text has 32 bytes
-pub takes-some : (s : Session) (b : ℕ) (bs : List ℕ) (room : ℕ) → 32 ≤ room → 0 < taken s (b ∷ bs) room
-takes-some s b bs room h = rw (le-ltb room 32 h) (omega arith)
+pub takes-some : (s : Session) (piece : List ℕ) (room : ℕ) → 0 < length piece → 32 ≤ room → 0 < taken s piece room
+takes-some s [] room some h = absurd (omega arith)
+takes-some s (b ∷ bs) room some h = rw (le-ltb room 32 h) (omega arith)
 
 -- all of it, where the text has 32 bytes for each of its bytes
 pub takes-all : (s : Session) (piece : List ℕ) (room : ℕ) → 32 * length piece ≤ room → taken s piece room ≡ length piece
