@@ -3,7 +3,7 @@
 use mathlib.Core.Path.{_≡_, refl, sym, _∙_, ap}
 use mathlib.Core.List.{List, [], _∷_, _++_, append-assoc, append-nil}
 use mathlib.Core.Bool.{Bool, true, false, cond}
-use Prim.Native.Nat.{ℕ, suc, zero, _+_, _-_, _%_, _≤_, _<_, min}
+use Prim.Native.Nat.{ℕ, suc, _+_, _-_, _≤_, _<_, min}
 use native.Mathlib.Omega.{arith}
 use native.Mathlib.Nat.{add-zero}
 use native.Mathlib.Numerals.{add-one}
@@ -12,7 +12,7 @@ use lib.Dec.{ltb, eqb}
 use lib.ListN.{length, take, length-append}
 use lib.Seq.{take-nil, take-all}
 use Rattle.fields.specs.declared.Field.{Field}
-use Rattle.fields.specs.Parted.{parts, onFirst, fieldsOf}
+use Rattle.fields.specs.Parted.{parts}
 use Rattle.fields.specs.Reading.{held, gathered, heldFields, empty, push, pushes}
 use Rattle.fields.proofs.Gathered.{onto, onto-first, onto-none, fields-held}
 use Rattle.joined.specs.declared.Pair.{Pair}
@@ -25,7 +25,7 @@ use Rattle.session.specs.Calls.{lineReply}
 use Rattle.session.specs.Text.{saidText, countText}
 use Rattle.session.specs.Rows.{newlines, lacking}
 use Rattle.session.specs.Whole.{unlessEmpty, filled, linesOf, linesTaken, answers, refusals, texts, whole, answerText}
-use Rattle.session.specs.Bytes.{fresh, longer, pushed, heldReply, counted, nextLine, ended, after, said, afterAll, saidAll, lastSaid}
+use Rattle.session.specs.Bytes.{fresh, longer, pushed, heldReply, counted, ended, after, said, afterAll, saidAll, lastSaid}
 
 -- == the input's lines, one by one ==
 

@@ -1,14 +1,15 @@
 -- Numbers as text: how long they are, that ten digits hold 32 bits, that they are numerals, and that none begins with a zero.
 -- Assumes nothing.
-use mathlib.Core.Path.{_≡_, refl, sym, _∙_, ap}
+use mathlib.Core.Path.{_≡_, refl, _∙_, ap}
 use mathlib.Core.List.{List, [], _∷_, _++_}
 use mathlib.Core.Bool.{Bool, true, false, cond}
-use Prim.Native.Nat.{ℕ, zero, suc, _+_, _-_, _*_, _/_, _%_, _^_, _≤_, _<_}
+use Prim.Native.Nat.{ℕ, zero, suc, _*_, _/_, _^_, _≤_, _<_}
 use native.Mathlib.Omega.{arith}
 use native.Mathlib.Nat.{pow-suc}
 use borrow.Author.Tests.{lt-ltb, le-ltb, ltb-true, ltb-false}
 use lib.Dec.{ltb}
 use lib.ListN.{length, length-append, getD}
+use Rattle.line.proofs.Choice.{each}
 use Rattle.fields.specs.Parted.{numeral}
 use Rattle.session.specs.Text.{glyph, digits, decimal}
 
@@ -71,3 +72,23 @@ digits-numeral (suc k) n = go (ltb n 10) (digits-numeral k (n / 10))
 pub decimal-numeral : (n : ℕ) → decimal n ≡ numeral (length (decimal n)) n
 unfolding decimal
 decimal-numeral n = digits-numeral 9 n
+
+-- a first digit other than 0
+record Leads (l : List ℕ) : Type 0 where
+  some : 0 < length l
+  nonzero : getD l 0 0 ≡ 48 → ⊥
+
+leads-more : (l : List ℕ) (x : ℕ) → Leads l → Leads (l ++ x ∷ [])
+leads-more [] x p = absurd (omega (arith, p .some))
+leads-more (y ∷ l) x p = record { some = omega arith; nonzero = p .nonzero }
+
+digits-lead : (k n : ℕ) → 0 < n → n < 10 ^ suc k → Leads (digits k n)
+digits-lead zero n h l = record { some = omega arith; nonzero = λ e. omega arith }
+digits-lead (suc k) n h l =
+    each Leads (ltb n 10) (λ t. record { some = omega arith; nonzero = λ e. omega (arith, ltb-true n 10 t) })
+    (λ t. leads-more (digits k (n / 10)) (glyph n) (digits-lead k (n / 10) (omega (arith, ltb-false n 10 t)) (omega (arith, pow-suc 10 (suc k)))))
+
+-- no leading zero, but for 0 itself
+pub no-leading-zero : (n : ℕ) → 0 < n → n < 4294967296 → getD (decimal n) 0 0 ≡ 48 → ⊥
+unfolding decimal
+no-leading-zero n h l = digits-lead 9 n h (omega arith) .nonzero

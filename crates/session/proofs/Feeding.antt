@@ -2,7 +2,7 @@
 -- Assumes nothing.
 use mathlib.Core.Path.{_≡_, refl, sym, _∙_, ap}
 use mathlib.Core.List.{List, [], _∷_, _++_, append-assoc, append-nil}
-use mathlib.Core.Bool.{true, false, cond}
+use mathlib.Core.Bool.{cond}
 use Prim.Native.Nat.{ℕ, suc, _+_, _-_, _≤_, _<_}
 use native.Mathlib.Omega.{arith}
 use native.Mathlib.Nat.{add-zero}
@@ -15,7 +15,7 @@ use Rattle.line.proofs.Choice.{either}
 use Rattle.session.specs.declared.Said.{Said}
 use Rattle.session.specs.declared.Said.the-variants.{Nothing, Value, Refusal}
 use Rattle.session.specs.declared.Session.{Session}
-use Rattle.session.specs.Text.{Put, Spoke, decimal, numbers, errorText, readText, countText, saidText}
+use Rattle.session.specs.Text.{Put, Spoke, numbers, errorText, readText, countText, saidText}
 use Rattle.session.specs.Bytes.{heldReply, after, said, afterAll, saidAll, taken}
 use Rattle.session.proofs.Decimals.{decimal-short}
 use Rattle.session.proofs.Puts.{behind, none-put, put-length, spoke}

@@ -1,12 +1,12 @@
 -- Which number a line is given, that a refused line changes nothing, what the counts of N count, and that a session's lines are steps of the bench.
 -- Assumes nothing.
 use mathlib.Core.Path.{_≡_, refl, sym, _∙_, ap}
-use mathlib.Core.List.{List, [], _∷_, _++_, append-assoc}
+use mathlib.Core.List.{List, [], _∷_, _++_}
 use mathlib.Core.Bool.{Bool, true, false, cond, not, _&&_}
-use Prim.Native.Nat.{ℕ, suc, _+_, _≤_, _<_}
+use Prim.Native.Nat.{ℕ, suc, _≤_}
 use native.Mathlib.Omega.{arith}
 use borrow.Author.Tests.{eqb-true, ne-eqb}
-use lib.Dec.{ltb, eqb}
+use lib.Dec.{eqb}
 use lib.ListN.{length}
 use Rattle.fields.specs.Parted.{fieldsOf}
 use Rattle.ins2651.specs.declared.Device.{Device}
@@ -17,17 +17,17 @@ use Rattle.ins2651.specs.Runs as chip
 use Rattle.ins2651.specs.Rows.{refusal}
 use Rattle.ins2651.proofs.Refused.{given-exactly, answers-refusal, refused-unchanged}
 use Rattle.joined.specs.declared.Pair.{Pair}
-use Rattle.joined.specs.Bench.{Bench, Step, Tick, At, step, runs}
+use Rattle.joined.specs.Bench.{Bench, A, B, Step, At, step, runs}
 use Rattle.joined.proofs.Promised.{ticks-are-the-run}
 use Rattle.line.specs.Sending.{bit}
 use Rattle.line.proofs.Choice.{each, either}
 use Rattle.session.specs.declared.Record.{Record}
 use Rattle.session.specs.declared.Record.the-variants.{Write, Read, Pins, Reset, Ticks, Shapeless}
 use Rattle.session.specs.declared.Said.{Said}
-use Rattle.session.specs.declared.Said.the-variants.{Nothing, Value, Refusal}
+use Rattle.session.specs.declared.Said.the-variants.{Nothing, Value}
 use Rattle.session.specs.declared.Reply.{Reply}
 use Rattle.session.specs.Records.{recordOf}
-use Rattle.session.specs.Calls.{deviceOf, putBack, verdict, replied, refused, obey, lineReply, number}
+use Rattle.session.specs.Calls.{deviceOf, putBack, verdict, refused, obey, lineReply, number}
 use Rattle.session.specs.Rows.{shapeless, ownRefusal, overlong, lineRefusal, lineRefusals, given}
 use Rattle.session.specs.Steps.{side, recordSteps, lineSteps, allSteps, pairAfter}
 use Rattle.session.specs.Whole.{answers, refusals}
@@ -154,7 +154,7 @@ runs-append w (s ∷ ss) ts = runs-append (step w s) ss ts
 call-step : (w : Bench) (unit : ℕ) (c : chip.Call) → step w (At (side unit) c) .pair ≡ putBack (w .pair) unit (chip.next (deviceOf (w .pair) unit) c)
 call-step w unit c = go (eqb unit 65)
   where
-    go : (t : Bool) → step w (At (cond t Rattle.joined.specs.Bench.A Rattle.joined.specs.Bench.B) c) .pair ≡ cond t (record { a = chip.next (cond t (w .pair .a) (w .pair .b)) c; b = w .pair .b }) (record { a = w .pair .a; b = chip.next (cond t (w .pair .a) (w .pair .b)) c })
+    go : (t : Bool) → step w (At (cond t A B) c) .pair ≡ cond t (record { a = chip.next (cond t (w .pair .a) (w .pair .b)) c; b = w .pair .b }) (record { a = w .pair .a; b = chip.next (cond t (w .pair .a) (w .pair .b)) c })
     go true = refl
     go false = refl
 

@@ -1,25 +1,27 @@
 -- The parser's law: a line of a known shape is exactly what a printer of its record writes, leading zeros aside.
 -- Assumes nothing.
-use mathlib.Core.Path.{_≡_, refl, sym, subst}
+use mathlib.Core.Path.{_≡_, refl, sym, ap, subst}
 use mathlib.Core.List.{List, [], _∷_, _++_, append-assoc, append-nil, map}
 use mathlib.Core.Bool.{Bool, true, false, cond, _&&_, false≢true}
-use Prim.Native.Nat.{ℕ, zero, suc, _+_, _/_, _%_, _^_, _≤_, _<_, min}
+use Prim.Native.Nat.{ℕ, zero, suc, _+_, _*_, _/_, _%_, _^_, _≤_, _<_, min}
 use native.Mathlib.Numerals.{add-one}
 use native.Mathlib.Omega.{arith}
 use native.Mathlib.Nat.{mod-eq-of-lt, mod-lt}
-use borrow.Author.Tests.{lt-ltb, le-leb, ne-eqb, ltb-true, leb-true, eqb-true}
+use borrow.Author.Tests.{lt-ltb, le-ltb, le-leb, ne-eqb, ltb-true, leb-true, eqb-true}
 use lib.Dec.{ltb, leb, eqb}
 use lib.ListN.{length, length-append}
 use Rattle.line.proofs.Choice.{each, all}
 use Rattle.line.proofs.Table.{both}
+use Rattle.joined.specs.declared.Pair.{Pair}
 use Rattle.fields.specs.Parted.{parts, onFirst, none, numeral, numberOf, letterOf, fieldOf, fieldsOf}
 use Rattle.fields.proofs.Gathered.{onto, onto-first, onto-none}
 use Rattle.fields.proofs.Numerals.{length-numeral, reads-numeral, number-is}
 use Rattle.session.specs.declared.Record.{Record}
 use Rattle.session.specs.declared.Record.the-variants.{Write, Read, Pins, Reset, Ticks, Shapeless}
 use Rattle.session.specs.Text.{digits, decimal, tabbed}
-use Rattle.session.specs.Records.{isUnit, upTo, two, three, four, five, recordOf}
-use Rattle.session.specs.Printed.{Column, letter, number, columns, aUnit, proper, Prints, nothing, a-letter, a-number, Printed, field, print}
+use Rattle.session.specs.Records.{aUnit, isUnit, upTo, two, three, four, five, recordOf}
+use Rattle.session.specs.Rows.{shapeless, ownRefusal, overlong, lineRefusal}
+use Rattle.session.specs.Printed.{Column, Letter, Number, columns, proper, Prints, nothing, a-letter, a-number, Printed, field, print}
 use Rattle.session.proofs.Decimals.{decimal-numeral}
 
 -- == parts and tabs ==
@@ -68,27 +70,27 @@ join (a-letter p) q = a-letter (join p q)
 join (a-number k some few low p) q = a-number k some few low (join p q)
 
 -- a field that reads as a letter, and one that reads as a number up to a limit
-lettered : (l : List ℕ) (b : ℕ) → letterOf l ≡ b → 0 < b → Prints (letter b ∷ []) (l ∷ [])
+lettered : (l : List ℕ) (b : ℕ) → letterOf l ≡ b → 0 < b → Prints (Letter b ∷ []) (l ∷ [])
 lettered [] b e h = absurd (omega arith)
 lettered (x ∷ []) b e h = rw e (a-letter nothing)
 lettered (x ∷ y ∷ ys) b e h = absurd (omega arith)
 
-numbered : (limit : ℕ) (l : List ℕ) → leb limit 65535 ≡ true → upTo limit (fieldOf l) ≡ true → Prints (number (numberOf l % suc limit) ∷ []) (l ∷ [])
+numbered : (limit : ℕ) (l : List ℕ) → leb limit 65535 ≡ true → upTo limit (fieldOf l) ≡ true → Prints (Number (numberOf l % suc limit) ∷ []) (l ∷ [])
 unfolding fieldOf
 numbered limit l small e =
     let t = both (leb (min (length l) 10) 5) (leb (numberOf l) limit) e in
     let low : numberOf l ≤ limit = leb-true _ _ (t .1) in
     let n = number-is l (lt-ltb (numberOf l) none (omega (arith, leb-true limit 65535 small))) in
-    subst (λ (f : List ℕ). Prints (number (numberOf l % suc limit) ∷ []) (f ∷ [])) (sym (n .text))
+    subst (λ (f : List ℕ). Prints (Number (numberOf l % suc limit) ∷ []) (f ∷ [])) (sym (n .text))
     (rw (mod-eq-of-lt {n = numberOf l} {m = suc limit} (omega arith)) (a-number (length l) (n .some) (omega (arith, leb-true)) (n .within) nothing))
 
 -- a line's tests, field by field: its kind, then its unit and its values
-kind : (b : ℕ) (k : List ℕ) → ltb 0 b ≡ true → eqb (fieldOf k .letter) b ≡ true → Held true (letter b ∷ []) (k ∷ [])
+kind : (b : ℕ) (k : List ℕ) → ltb 0 b ≡ true → eqb (fieldOf k .letter) b ≡ true → Held true (Letter b ∷ []) (k ∷ [])
 unfolding fieldOf
 kind b k some e = (refl, lettered k b (eqb-true _ _ e) (ltb-true 0 b some))
 
 module _ {t p : Bool} {cs : List Column} {fs : List (List ℕ)} (before : t ≡ true → Held p cs fs) (l : List ℕ) where
-  unit : (t && isUnit (fieldOf l)) ≡ true → Held (p && aUnit (fieldOf l .letter)) (cs ++ letter (fieldOf l .letter) ∷ []) (fs ++ l ∷ [])
+  unit : (t && isUnit (fieldOf l)) ≡ true → Held (p && aUnit (fieldOf l .letter)) (cs ++ Letter (fieldOf l .letter) ∷ []) (fs ++ l ∷ [])
   unfolding fieldOf
   unit e =
       let s = both t (isUnit (fieldOf l)) e in
@@ -97,7 +99,7 @@ module _ {t p : Bool} {cs : List Column} {fs : List (List ℕ)} (before : t ≡ 
 
   value :
       (limit : ℕ) → leb limit 65535 ≡ true → (t && upTo limit (fieldOf l)) ≡ true
-      → Held (p && leb (fieldOf l .number % suc limit) limit) (cs ++ number (fieldOf l .number % suc limit) ∷ []) (fs ++ l ∷ [])
+      → Held (p && leb (fieldOf l .number % suc limit) limit) (cs ++ Number (fieldOf l .number % suc limit) ∷ []) (fs ++ l ∷ [])
   unfolding fieldOf
   value limit small e =
       let s = both t (upTo limit (fieldOf l)) e in
@@ -185,7 +187,7 @@ digits-fit (suc k) (suc m) n h g =
     each (Fits (suc (suc m)) n) (ltb n 10) (λ e. (omega arith, omega arith, ltb-true n 10 e))
     (λ e. let t = digits-fit k m (n / 10) (omega arith) (omega arith) in rw (length-append, add-one) (omega arith, omega arith, omega arith))
 
-decimal-before : {cs : List Column} {fs : List (List ℕ)} (n : ℕ) → n ≤ 65535 → Prints cs fs → Prints (number n ∷ cs) (decimal n ∷ fs)
+decimal-before : {cs : List Column} {fs : List (List ℕ)} (n : ℕ) → n ≤ 65535 → Prints cs fs → Prints (Number n ∷ cs) (decimal n ∷ fs)
 unfolding decimal
 decimal-before n h rest = let t = digits-fit 9 4 n (omega arith) (omega arith) in rw (decimal-numeral n) (a-number (length (decimal n)) (t .0) (t .1) (t .2) rest)
 
@@ -208,3 +210,54 @@ print-printed r w = record { within = w; fields = map field (columns r); prints 
 -- and what it prints reads back
 pub reads-print : (r : Record) → proper r ≡ true → recordOf (fieldsOf (print r)) ≡ r
 reads-print r w = printed-reads (print-printed r w)
+
+-- == refusals ==
+
+-- every other line is refused for itself: 7 over 64 bytes, else 6
+pub unprinted-refused : (p : Pair) (line : List ℕ) → ((r : Record) → Printed r line → ⊥) → lineRefusal p line ≡ cond (overlong line) 7 6
+unprinted-refused p line h = go (recordOf (fieldsOf line)) (reads-printed line)
+  where
+    go : (r : Record) → Known line r → cond (overlong line) 7 (cond (shapeless r) 6 (ownRefusal p r)) ≡ cond (overlong line) 7 6
+    go (Write u a v) k = absurd (h (Write u a v) (k (λ e. false≢true (ap shapeless e))))
+    go (Read u a) k = absurd (h (Read u a) (k (λ e. false≢true (ap shapeless e))))
+    go (Pins u a b c) k = absurd (h (Pins u a b c) (k (λ e. false≢true (ap shapeless e))))
+    go (Reset u) k = absurd (h (Reset u) (k (λ e. false≢true (ap shapeless e))))
+    go (Ticks n) k = absurd (h (Ticks n) (k (λ e. false≢true (ap shapeless e))))
+    go Shapeless k = refl
+
+-- the bytes of fields, each with a tab
+abbrev total : List (List ℕ) → ℕ
+total [] = 0
+total (f ∷ fs) = suc (length f) + total fs
+
+tabbed-short : (fs : List (List ℕ)) → length (tabbed fs []) ≤ total fs
+tabbed-short [] = omega arith
+tabbed-short (f ∷ []) = rw append-nil (omega arith)
+tabbed-short (f ∷ g ∷ gs) = rw length-append (omega (arith, tabbed-short (g ∷ gs)))
+
+prints-short : {cs : List Column} {fs : List (List ℕ)} → Prints cs fs → total fs ≤ 6 * length cs
+prints-short nothing = omega arith
+prints-short (a-letter p) = omega (arith, prints-short p)
+prints-short (a-number {n} k some few low p) = omega (arith, prints-short p, length-numeral k n)
+
+columns-few : (r : Record) → length (columns r) ≤ 5
+columns-few (Write u a v) = omega arith
+columns-few (Read u a) = omega arith
+columns-few (Pins u a b c) = omega arith
+columns-few (Reset u) = omega arith
+columns-few (Ticks n) = omega arith
+columns-few Shapeless = omega arith
+
+-- and a record, printed, is refused for itself never: it is given the device's own number
+pub printed-taken : (p : Pair) {r : Record} {line : List ℕ} → Printed r line → lineRefusal p line ≡ ownRefusal p r
+printed-taken p {r} {line} q =
+    let short : length line ≤ 64 = rw (q .text) (omega (arith, tabbed-short (q .fields), prints-short (q .prints), columns-few r)) in
+    rw (le-ltb 64 (length line) short, printed-reads q) (go r (q .within))
+  where
+    go : (r : Record) → proper r ≡ true → cond (shapeless r) 6 (ownRefusal p r) ≡ ownRefusal p r
+    go (Write u a v) w = refl
+    go (Read u a) w = refl
+    go (Pins u a b c) w = refl
+    go (Reset u) w = refl
+    go (Ticks n) w = refl
+    go Shapeless w = absurd (false≢true w)

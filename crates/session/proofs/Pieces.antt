@@ -2,10 +2,10 @@
 -- Assumes nothing.
 use mathlib.Core.Path.{_≡_, refl, sym, _∙_, ap}
 use mathlib.Core.List.{List, [], _∷_, _++_, append-assoc, append-nil}
-use mathlib.Core.Bool.{Bool, true, false, not}
-use Prim.Native.Nat.{ℕ, suc, _+_, _-_, _*_, _≤_, _<_}
+use mathlib.Core.Bool.{Bool, true, false, cond, not, _||_}
+use Prim.Native.Nat.{ℕ, suc, _-_, _*_, _≤_, _<_}
 use native.Mathlib.Omega.{arith}
-use borrow.Author.Tests.{lt-ltb, le-ltb}
+use borrow.Author.Tests.{le-ltb}
 use lib.Dec.{ltb}
 use lib.ListN.{length, take, drop, take-append-drop, length-take}
 use lib.Seq.{take-take}
@@ -24,7 +24,7 @@ pub taken-few : (s : Session) (piece : List ℕ) (room : ℕ) → taken s piece 
 taken-few s [] room = omega arith
 taken-few s (b ∷ bs) room = go (ltb room 32) (taken-few (after s b) bs (room - length (said s b)))
   where
-    go : (t : Bool) → taken (after s b) bs (room - length (said s b)) ≤ length bs → mathlib.Core.Bool.cond t 0 (suc (taken (after s b) bs (room - length (said s b)))) ≤ suc (length bs)
+    go : (t : Bool) → taken (after s b) bs (room - length (said s b)) ≤ length bs → cond t 0 (suc (taken (after s b) bs (room - length (said s b)))) ≤ suc (length bs)
     go true h = omega arith
     go false h = omega arith
 
@@ -81,7 +81,7 @@ ended {input} {h} p e = rw (p .split, said-append, after-append, ← p .state, p
     stopped : (left : List ℕ) → ltb (h .session .lines) 65535 ≡ false → saidAll fresh (p .given) ++ lastSaid (h .session) ≡ (saidAll fresh (p .given) ++ saidAll (h .session) left) ++ lastSaid (afterAll (h .session) left)
     stopped left f = rw (stopped-said (h .session) f left, stopped-after (h .session) f left, append-nil)
 
-    go : (left : List ℕ) → (mathlib.Core.Bool._||_ (none left) (not (ltb (h .session .lines) 65535))) ≡ true → saidAll fresh (p .given) ++ lastSaid (h .session) ≡ (saidAll fresh (p .given) ++ saidAll (h .session) left) ++ lastSaid (afterAll (h .session) left)
+    go : (left : List ℕ) → (none left || not (ltb (h .session .lines) 65535)) ≡ true → saidAll fresh (p .given) ++ lastSaid (h .session) ≡ (saidAll fresh (p .given) ++ saidAll (h .session) left) ++ lastSaid (afterAll (h .session) left)
     go [] e = rw append-nil
     go (b ∷ bs) e = stopped (b ∷ bs) (not-so (ltb (h .session .lines) 65535) e)
 

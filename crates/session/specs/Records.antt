@@ -10,8 +10,11 @@ use Rattle.session.specs.declared.Record.{Record}
 use Rattle.session.specs.declared.Record.the-variants.{Write, Read, Pins, Reset, Ticks, Shapeless}
 
 -- Unit is A or B
+abbrev pub aUnit : ℕ → Bool
+aUnit unit = eqb unit 65 || eqb unit 66
+
 abbrev pub isUnit : Field → Bool
-isUnit f = eqb (f .letter) 65 || eqb (f .letter) 66
+isUnit f = aUnit (f .letter)
 
 -- 1 to 5 digits, not above the limit: what is no number is above every limit
 abbrev pub upTo : ℕ → Field → Bool

@@ -1,7 +1,6 @@
 -- `session::decimal` meets its contract: a number below 10 is its digit, any other its tenth's text and then its last digit. The measure is the number.
 -- Assumes nothing.
-use mathlib.Core.Path.{sym, subst}
-use Prim.Native.Nat.{ℕ, _<_, _/_}
+use Prim.Native.Nat.{ℕ, _<_}
 use native.Mathlib.Omega.{arith}
 use borrow.Author.Needs.{needs}
 use borrow.Fn.Kinds.{In}

@@ -1,7 +1,6 @@
 -- `session::feed` meets its contract: each turn takes the piece's next byte, while the text has room.
 -- Assumes nothing.
 use Prim.Native.Nat.{_-_}
-use mathlib.Core.Path.{sym, _∙_}
 use native.Mathlib.Omega.{arith}
 use lib.ListN.{length}
 use Rattle.session.proofs.Feeding.{Going, goes, goes-on, done-full, done-all}
