@@ -11,18 +11,16 @@ use borrow.Author.Tests.{lt-ltb, le-ltb, ltb-true, ltb-false}
 use lib.Dec.{ltb, eqb}
 use lib.ListN.{length, take, length-append}
 use lib.Seq.{take-nil, take-all}
-use Rattle.fields.specs.declared.Field.{Field}
 use Rattle.fields.specs.Parted.{parts}
-use Rattle.fields.specs.Reading.{held, gathered, heldFields, empty, push, pushes}
+use Rattle.fields.specs.Reading.{empty, push, pushes}
 use Rattle.fields.proofs.Gathered.{onto, onto-first, onto-none, fields-held}
 use Rattle.joined.specs.declared.Pair.{Pair}
-use Rattle.session.specs.declared.Record.the-variants.{Shapeless}
 use Rattle.session.specs.declared.Said.{Said}
 use Rattle.session.specs.declared.Said.the-variants.{Nothing, Value, Refusal}
 use Rattle.session.specs.declared.Session.{Session}
-use Rattle.session.specs.Records.{recordOf, heldRecord}
-use Rattle.session.specs.Calls.{lineReply}
-use Rattle.session.specs.Text.{saidText, countText}
+use Rattle.records.proofs.Held.{held-record}
+use Rattle.session.specs.Calls.{lineReply, saidText}
+use Rattle.rows.specs.Text.{countsText}
 use Rattle.session.specs.Rows.{newlines, lacking}
 use Rattle.session.specs.Whole.{unlessEmpty, filled, linesOf, linesTaken, answers, refusals, texts, whole, answerText}
 use Rattle.session.specs.Bytes.{fresh, longer, pushed, heldReply, counted, ended, after, said, afterAll, saidAll, lastSaid}
@@ -77,7 +75,7 @@ lines-counted input = ap length (sym (input-lines input)) ∙ count-from input [
 
 -- after n lines, f of them refused
 abbrev rest : Pair → ℕ → ℕ → List (List ℕ) → List ℕ
-rest p n f ls = texts (suc n) (answers p ls) ++ countText (n + length ls) (f + refusals (answers p ls))
+rest p n f ls = texts (suc n) (answers p ls) ++ countsText (n + length ls) (f + refusals (answers p ls))
 
 -- a refused line counts as one
 abbrev fault : Said → ℕ
@@ -98,27 +96,10 @@ rest-more p n f l ls =
     let e : n + suc (length ls) ≡ suc n + length ls = omega arith in
     rw (append-assoc, e, one-more f (r .said) (answers (r .pair) ls))
 
-rest-none : (p : Pair) (n f : ℕ) → rest p n f [] ≡ countText n f
+rest-none : (p : Pair) (n f : ℕ) → rest p n f [] ≡ countsText n f
 rest-none p n f = rw (add-zero n, add-zero f)
 
 -- == what the session holds of a line ==
-
--- a sixth field is one too many, and so is every further
-many : (a b d e f : Field) (gs hs : List Field) → heldRecord (gathered (a ∷ b ∷ d ∷ e ∷ f ∷ gs) hs) ≡ Shapeless
-unfolding heldRecord
-many a b d e f gs [] = refl
-many a b d e f gs (h ∷ []) = refl
-many a b d e f gs (h ∷ i ∷ hs) = many a b d e f (gs ++ h ∷ []) (i ∷ hs)
-
-held-record : (fs : List Field) → heldRecord (heldFields fs) ≡ recordOf fs
-unfolding heldRecord
-held-record [] = refl
-held-record (a ∷ []) = refl
-held-record (a ∷ b ∷ []) = refl
-held-record (a ∷ b ∷ d ∷ []) = refl
-held-record (a ∷ b ∷ d ∷ e ∷ []) = refl
-held-record (a ∷ b ∷ d ∷ e ∷ f ∷ []) = refl
-held-record (a ∷ b ∷ d ∷ e ∷ f ∷ g ∷ gs) = many a b d e f [] (g ∷ gs)
 
 -- h is the line under way
 record Holds (s : Session) (h : List ℕ) : Type 0 where
@@ -226,11 +207,11 @@ module _ (s : Session) (b : ℕ) where
 
 -- after the last line that is taken nothing is looked at
 module _ (s : Session) (e : ltb (s .lines) 65535 ≡ false) where
-  stopped-last : lastSaid s ≡ countText (s .lines) (s .refusals)
+  stopped-last : lastSaid s ≡ countsText (s .lines) (s .refusals)
   unfolding lastSaid
   stopped-last = rw (stop-said s 10 e, stop-after s 10 e) (go (ltb 0 (s .length)))
     where
-      go : (t : Bool) → cond t (countText (s .lines) (s .refusals)) (countText (s .lines) (s .refusals)) ≡ countText (s .lines) (s .refusals)
+      go : (t : Bool) → cond t (countsText (s .lines) (s .refusals)) (countsText (s .lines) (s .refusals)) ≡ countsText (s .lines) (s .refusals)
       go true = refl
       go false = refl
 

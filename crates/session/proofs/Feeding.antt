@@ -9,31 +9,27 @@ use native.Mathlib.Nat.{add-zero}
 use native.Mathlib.Numerals.{add-one}
 use borrow.Author.Tests.{lt-ltb, le-ltb}
 use lib.Dec.{ltb, eqb}
-use lib.ListN.{length, take, drop, getD, length-append, drop-of-length-le}
+use lib.ListN.{length, take, drop, getD, drop-of-length-le}
 use lib.Seq.{take-suc, drop-cons}
 use Rattle.line.proofs.Choice.{either}
 use Rattle.session.specs.declared.Said.{Said}
-use Rattle.session.specs.declared.Said.the-variants.{Nothing, Value, Refusal}
 use Rattle.session.specs.declared.Session.{Session}
-use Rattle.session.specs.Text.{Put, Spoke, numbers, errorText, readText, countText, saidText}
+use Rattle.rows.specs.declared.Row.the-variants.{Counts}
+use Rattle.rows.specs.Text.{Put, Spoke, rowText, countsText}
+use Rattle.session.specs.Calls.{rowOf, saidText}
 use Rattle.session.specs.Bytes.{heldReply, after, said, afterAll, saidAll, taken}
-use Rattle.session.proofs.Decimals.{decimal-short}
-use Rattle.session.proofs.Puts.{behind, none-put, put-length, spoke}
+use Rattle.rows.proofs.Decimals.{row-short}
+use Rattle.rows.proofs.Puts.{behind, none-put, put-length, spoke}
 
 -- == how long a text may be ==
 
-numbers-short : (m n : ℕ) → length (numbers m n) ≤ 23
-numbers-short m n = simp length-append (omega (arith, decimal-short m, decimal-short n))
-
-pub counts-short : (m n : ℕ) → length (countText m n) ≤ 32
-unfolding countText
-counts-short m n = omega (arith, numbers-short m n)
-
 said-text-short : (line : ℕ) (s : Said) → length (saidText line s) ≤ 32
-unfolding saidText readText errorText
-said-text-short line Nothing = omega arith
-said-text-short line (Value unit address v) = omega (arith, numbers-short address v)
-said-text-short line (Refusal n) = omega (arith, numbers-short line n)
+unfolding saidText
+said-text-short line s = row-short (rowOf line s)
+
+pub counts-short : (m n : ℕ) → length (countsText m n) ≤ 32
+unfolding rowText
+counts-short m n = row-short (Counts m n)
 
 pub said-short : (s : Session) (b : ℕ) → length (said s b) ≤ 32
 unfolding said

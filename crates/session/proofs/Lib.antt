@@ -1,8 +1,6 @@
-pub mod Decimals
-pub mod Puts
 pub mod Feeding
 pub mod Cutting
 pub mod Pieces
 pub mod Lines
+pub mod Shapes
 pub mod Concrete
-pub mod Parser

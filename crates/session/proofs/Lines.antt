@@ -21,12 +21,12 @@ use Rattle.joined.specs.Bench.{Bench, A, B, Step, At, step, runs}
 use Rattle.joined.proofs.Promised.{ticks-are-the-run}
 use Rattle.line.specs.Sending.{bit}
 use Rattle.line.proofs.Choice.{each, either}
-use Rattle.session.specs.declared.Record.{Record}
-use Rattle.session.specs.declared.Record.the-variants.{Write, Read, Pins, Reset, Ticks, Shapeless}
+use Rattle.records.specs.declared.Record.{Record}
+use Rattle.records.specs.declared.Record.the-variants.{Write, Read, Pins, Reset, Ticks, Shapeless}
 use Rattle.session.specs.declared.Said.{Said}
 use Rattle.session.specs.declared.Said.the-variants.{Nothing, Value}
 use Rattle.session.specs.declared.Reply.{Reply}
-use Rattle.session.specs.Records.{recordOf}
+use Rattle.records.specs.Records.{recordOf}
 use Rattle.session.specs.Calls.{deviceOf, putBack, verdict, refused, obey, lineReply, number}
 use Rattle.session.specs.Rows.{shapeless, ownRefusal, overlong, lineRefusal, lineRefusals, given}
 use Rattle.session.specs.Steps.{side, recordSteps, lineSteps, allSteps, pairAfter}

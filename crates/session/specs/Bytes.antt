@@ -10,9 +10,9 @@ use Rattle.session.specs.declared.Said.{Said}
 use Rattle.session.specs.declared.Said.the-variants.{Nothing, Value, Refusal}
 use Rattle.session.specs.declared.Reply.{Reply}
 use Rattle.session.specs.declared.Session.{Session}
-use Rattle.session.specs.Records.{heldRecord}
-use Rattle.session.specs.Calls.{freshPair, refused, obey}
-use Rattle.session.specs.Text.{saidText, countText}
+use Rattle.records.specs.Records.{heldRecord}
+use Rattle.session.specs.Calls.{freshPair, refused, obey, saidText}
+use Rattle.rows.specs.Text.{countsText}
 
 abbrev pub fresh : Session
 fresh = record { pair = freshPair; lines = 0; refusals = 0; length = 0; fields = empty }
@@ -68,4 +68,4 @@ taken s (b ∷ bs) room = cond (ltb room 32) 0 (suc (taken (after s b) bs (room 
 -- at the end of the input: the last line, where it lacks its newline, and the counts
 unfoldable pub lastSaid : Session → List ℕ
 lastSaid s =
-    cond (ltb 0 (s .length)) (said s 10 ++ countText (after s 10 .lines) (after s 10 .refusals)) (countText (s .lines) (s .refusals))
+    cond (ltb 0 (s .length)) (said s 10 ++ countsText (after s 10 .lines) (after s 10 .refusals)) (countsText (s .lines) (s .refusals))

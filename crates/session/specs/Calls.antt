@@ -14,12 +14,15 @@ use Rattle.ins2651.specs.RegisterWrites.{write}
 use Rattle.ins2651.specs.Pinning.{setPins}
 use Rattle.joined.specs.declared.Pair.{Pair}
 use Rattle.joined.specs.Joining.{ticks}
-use Rattle.session.specs.declared.Record.{Record}
-use Rattle.session.specs.declared.Record.the-variants.{Write, Read, Pins, Reset, Ticks, Shapeless}
+use Rattle.records.specs.declared.Record.{Record}
+use Rattle.records.specs.declared.Record.the-variants.{Write, Read, Pins, Reset, Ticks, Shapeless}
+use Rattle.rows.specs.declared.Row.{Row}
+use Rattle.rows.specs.declared.Row.the-variants as row
+use Rattle.rows.specs.Text.{rowText}
 use Rattle.session.specs.declared.Said.{Said}
 use Rattle.session.specs.declared.Said.the-variants.{Nothing, Value, Refusal}
 use Rattle.session.specs.declared.Reply.{Reply}
-use Rattle.session.specs.Records.{recordOf}
+use Rattle.records.specs.Records.{recordOf}
 
 -- both devices begin as after reset
 abbrev pub freshPair : Pair
@@ -74,3 +77,12 @@ abbrev pub number : Said → ℕ
 number Nothing = 0
 number (Value unit address v) = 0
 number (Refusal n) = n
+
+-- the output's line for what is said, by the line's number
+abbrev pub rowOf : ℕ → Said → Row
+rowOf line Nothing = row.Nothing
+rowOf line (Value unit address v) = row.Value unit address v
+rowOf line (Refusal n) = row.Refusal line n
+
+unfoldable pub saidText : ℕ → Said → List ℕ
+saidText line s = rowText (rowOf line s)

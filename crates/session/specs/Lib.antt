@@ -1,10 +1,7 @@
-pub mod Records
 pub mod Calls
-pub mod Text
-pub mod Printed
 pub mod Whole
 pub mod Rows
 pub mod Steps
 pub mod Bytes
-pub mod Ascii
 pub mod Offers
+pub mod Ascii

@@ -7,8 +7,8 @@ use Rattle.fields.specs.Parted.{parts}
 use Rattle.joined.specs.declared.Pair.{Pair}
 use Rattle.session.specs.declared.Said.{Said}
 use Rattle.session.specs.declared.Said.the-variants.{Nothing, Value, Refusal}
-use Rattle.session.specs.Calls.{freshPair, lineReply}
-use Rattle.session.specs.Text.{saidText, countText}
+use Rattle.session.specs.Calls.{freshPair, lineReply, saidText}
+use Rattle.rows.specs.Text.{countsText}
 
 -- == lines ==
 
@@ -53,7 +53,7 @@ texts n (s ∷ ss) = saidText n s ++ texts (suc n) ss
 
 -- line numbers are from 1; last come the lines taken and the refusals
 abbrev pub whole : List (List ℕ) → List Said → List ℕ
-whole lines said = texts 1 said ++ countText (length lines) (refusals said)
+whole lines said = texts 1 said ++ countsText (length lines) (refusals said)
 
 unfoldable pub answerText : List ℕ → List ℕ
 answerText input = whole (linesTaken input) (answers freshPair (linesTaken input))

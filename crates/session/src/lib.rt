@@ -2,29 +2,17 @@
 // `feed` for each piece, `finish`. Every call takes any number in any field, and none is refused: a refused line is
 // answered in the text.
 ghost use mathlib.Core.Path.{_≡_};
-ghost use mathlib.Core.List.{[], _∷_};
-ghost use Prim.Native.Nat.{_+_, _%_, _≤_, _<_};
+ghost use Prim.Native.Nat.{_+_, _≤_, _<_};
 ghost use lib.ListN.{length, take};
-ghost use Rattle.session.specs.Records;
+ghost use Rattle.rows.specs.Text.{Put, Spoke};
 ghost use Rattle.session.specs.Calls;
-ghost use Rattle.session.specs.Text;
-ghost use Rattle.session.specs.Text.{Put, Spoke};
 ghost use Rattle.session.specs.Bytes;
-use fields::Field;
 use fields::Fields;
 use ins2651::Device;
 use ins2651::Outcome;
 use joined::Pair;
-
-// A line's record. A unit is its letter, 65 or 66.
-pub enum Record {
-    Write(u8, u8, u8),
-    Read(u8, u8),
-    Pins(u8, u8, u8, u8),
-    Reset(u8),
-    Ticks(u16),
-    Shapeless,
-}
+use records::Record;
+use rows::Row;
 
 // What is said of a line: nothing where it is done, unit, address and value of a read, or the number of its refusal.
 pub enum Said {
@@ -62,101 +50,6 @@ pub struct Fed {
     pub session: Session,
     pub used: usize,
     pub at: usize,
-}
-
-// == records ==
-
-fn is_unit(f: Field) -> bool
-    ensures { λ r. ⌜ r ≡ Records.isUnit f ⌝ }
-{
-    (f.letter == 65) | (f.letter == 66)
-}
-
-// 1 to 5 digits, not above the limit.
-fn up_to(limit: u32, f: Field) -> bool
-    ensures { λ r. ⌜ r ≡ Records.upTo limit f ⌝ }
-{
-    (f.size <= 5) & (f.number <= limit)
-}
-
-// A number below 256 as a byte.
-fn byte_of(f: Field) -> u8
-    ensures { λ r. ⌜ r ≡ Records.byteOf f ⌝ }
-{
-    (f.number % 256) as u8
-}
-
-fn count_of(f: Field) -> u16
-    ensures { λ r. ⌜ r ≡ Records.countOf f ⌝ }
-{
-    (f.number % 65536) as u16
-}
-
-// Z unit; L count.
-fn two(k: Field, u: Field) -> Record
-    ensures { λ r. ⌜ r ≡ Records.two k u ⌝ }
-{
-    let z = (k.letter == 90) & is_unit(u);
-    if z {
-        return Record::Reset(u.letter);
-    }
-    let l = (k.letter == 76) & up_to(65535, u);
-    if l {
-        return Record::Ticks(count_of(u));
-    }
-    Record::Shapeless
-}
-
-// R unit addr.
-fn three(k: Field, u: Field, a: Field) -> Record
-    ensures { λ r. ⌜ r ≡ Records.three k u a ⌝ }
-{
-    let known = (k.letter == 82) & is_unit(u) & up_to(255, a);
-    if known {
-        return Record::Read(u.letter, byte_of(a));
-    }
-    Record::Shapeless
-}
-
-// W unit addr value.
-fn four(k: Field, u: Field, a: Field, v: Field) -> Record
-    ensures { λ r. ⌜ r ≡ Records.four k u a v ⌝ }
-{
-    let known = (k.letter == 87) & is_unit(u) & up_to(255, a) & up_to(255, v);
-    if known {
-        return Record::Write(u.letter, byte_of(a), byte_of(v));
-    }
-    Record::Shapeless
-}
-
-// P unit dsr dcd cts.
-fn five(k: Field, u: Field, dsr: Field, dcd: Field, cts: Field) -> Record
-    ensures { λ r. ⌜ r ≡ Records.five k u dsr dcd cts ⌝ }
-{
-    let known = (k.letter == 80) & is_unit(u) & up_to(255, dsr) & up_to(255, dcd) & up_to(255, cts);
-    if known {
-        return Record::Pins(u.letter, byte_of(dsr), byte_of(dcd), byte_of(cts));
-    }
-    Record::Shapeless
-}
-
-// The record of the line that these are the fields of.
-fn record_of(f: Fields) -> Record
-    ensures { λ r. ⌜ r ≡ Records.heldRecord f ⌝ }
-{
-    if f.count == 1 {
-        return two(f.first, f.last);
-    }
-    if f.count == 2 {
-        return three(f.first, f.second, f.last);
-    }
-    if f.count == 3 {
-        return four(f.first, f.second, f.third, f.last);
-    }
-    if f.count == 4 {
-        return five(f.first, f.second, f.third, f.fourth, f.last);
-    }
-    Record::Shapeless
 }
 
 // == calls ==
@@ -257,103 +150,14 @@ fn obey(p: Pair, r: Record) -> Reply
 
 // == text ==
 
-fn put(out: &mut [u8], at: usize, b: u8) -> usize
-    requires { ⌜ at < length (now out) ⌝ }
-    ensures { λ r. ⌜ Put (now (out .entry)) at (b ∷ []) (now (out .exit)) r ⌝ }
-{
-    out[at] = b;
-    at + 1
-}
-
-// The last digit of a number.
-fn glyph(n: u32) -> u8
-    ensures { λ r. ⌜ r ≡ Text.glyph n ⌝ }
-{
-    48 + (n % 10) as u8
-}
-
-fn decimal(out: &mut [u8], at: usize, n: u32) -> usize
-    requires { ⌜ at + 10 ≤ length (now out) ⌝ }
-    ensures { λ r. ⌜ Put (now (out .entry)) at (Text.decimal n) (now (out .exit)) r ⌝ }
-{
-    let g = glyph(n);
-    if n < 10 {
-        return put(out, at, g);
-    }
-    let e = decimal(out, at, n / 10);
-    put(out, e, g)
-}
-
-fn field(out: &mut [u8], at: usize, n: u32) -> usize
-    requires { ⌜ at + 11 ≤ length (now out) ⌝ }
-    ensures { λ r. ⌜ Put (now (out .entry)) at (9 ∷ Text.decimal n) (now (out .exit)) r ⌝ }
-{
-    let e = put(out, at, 9);
-    decimal(out, e, n)
-}
-
-// The two numbers that end a line.
-fn numbers(out: &mut [u8], at: usize, m: u32, n: u32) -> usize
-    requires { ⌜ at + 23 ≤ length (now out) ⌝ }
-    ensures { λ r. ⌜ Put (now (out .entry)) at (Text.numbers m n) (now (out .exit)) r ⌝ }
-{
-    let e = field(out, at, m);
-    let f = field(out, e, n);
-    put(out, f, 10)
-}
-
-fn wide(n: u16) -> u32
-    ensures { λ r. ⌜ r ≡ n ⌝ }
-{
-    n as u32
-}
-
-fn wide_byte(n: u8) -> u32
-    ensures { λ r. ⌜ r ≡ n ⌝ }
-{
-    n as u32
-}
-
-fn say_error(out: &mut [u8], at: usize, line: u16, n: u8) -> usize
-    requires { ⌜ at + 32 ≤ length (now out) ⌝ }
-    ensures { λ r. ⌜ Put (now (out .entry)) at (Text.errorText line n) (now (out .exit)) r ⌝ }
-{
-    let l = wide(line);
-    let m = wide_byte(n);
-    let e = put(out, at, 69);
-    numbers(out, e, l, m)
-}
-
-fn say_value(out: &mut [u8], at: usize, unit: u8, address: u8, v: u8) -> usize
-    requires { ⌜ at + 32 ≤ length (now out) ⌝ }
-    ensures { λ r. ⌜ Put (now (out .entry)) at (Text.readText unit address v) (now (out .exit)) r ⌝ }
-{
-    let m = wide_byte(address);
-    let n = wide_byte(v);
-    let e = put(out, at, 82);
-    let f = put(out, e, 9);
-    let g = put(out, f, unit);
-    numbers(out, g, m, n)
-}
-
-fn say_counts(out: &mut [u8], at: usize, lines: u16, refusals: u16) -> usize
-    requires { ⌜ at + 32 ≤ length (now out) ⌝ }
-    ensures { λ r. ⌜ Put (now (out .entry)) at (Text.countText lines refusals) (now (out .exit)) r ⌝ }
-{
-    let m = wide(lines);
-    let n = wide(refusals);
-    let e = put(out, at, 78);
-    numbers(out, e, m, n)
-}
-
-fn say(out: &mut [u8], at: usize, line: u16, said: Said) -> usize
-    requires { ⌜ at + 32 ≤ length (now out) ⌝ }
-    ensures { λ r. ⌜ Put (now (out .entry)) at (Text.saidText line said) (now (out .exit)) r ⌝ }
+// The output's line for what is said.
+fn row_of(line: u16, said: Said) -> Row
+    ensures { λ r. ⌜ r ≡ Calls.rowOf line said ⌝ }
 {
     match said {
-        Said::Nothing => at,
-        Said::Value(unit, address, v) => say_value(out, at, unit, address, v),
-        Said::Refusal(n) => say_error(out, at, line, n),
+        Said::Nothing => Row::Nothing,
+        Said::Value(unit, address, v) => Row::Value(unit, address, v),
+        Said::Refusal(n) => Row::Refusal(line, n),
     }
 }
 
@@ -400,7 +204,7 @@ fn held_reply(s: Session) -> Reply
     if 64 < s.length {
         return refused(s.pair, 7);
     }
-    obey(s.pair, record_of(s.fields))
+    obey(s.pair, records::record_of(s.fields))
 }
 
 // The refusals so far, with this line's. They are never more than the lines.
@@ -433,11 +237,12 @@ fn next_line(s: Session, r: Reply) -> Session
 // A newline: the line under way is taken.
 fn ended(s: Session, out: &mut [u8], at: usize) -> Turn
     requires { ⌜ (at + 32 ≤ length (now out)) × (s .lines < 65535) ⌝ }
-    ensures { λ r. ⌜ (r .session ≡ Bytes.ended s) × Put (now (out .entry)) at (Text.saidText (s .lines + 1) (Bytes.heldReply s .said)) (now (out .exit)) (r .at) ⌝ }
+    ensures { λ r. ⌜ (r .session ≡ Bytes.ended s) × Put (now (out .entry)) at (Calls.saidText (s .lines + 1) (Bytes.heldReply s .said)) (now (out .exit)) (r .at) ⌝ }
 {
     let r = held_reply(s);
     let said = r.said;
-    let e = say(out, at, s.lines + 1, said);
+    let row = row_of(s.lines + 1, said);
+    let e = rows::write(out, at, row);
     Turn {
         session: next_line(s, r),
         at: e,
@@ -499,7 +304,7 @@ fn finish_in(s: Session, out: &mut [u8]) -> usize
         let t = byte(s, 10, out, 0);
         let q = t.session;
         let at = t.at;
-        return say_counts(out, at, q.lines, q.refusals);
+        return rows::write(out, at, Row::Counts(q.lines, q.refusals));
     }
-    say_counts(out, 0, s.lines, s.refusals)
+    rows::write(out, 0, Row::Counts(s.lines, s.refusals))
 }

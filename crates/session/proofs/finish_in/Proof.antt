@@ -4,23 +4,20 @@ use borrow.Author.Needs.{needs}
 use borrow.Author.Tests.{lt-ltb, le-ltb}
 use native.Mathlib.Omega.{arith}
 use lib.ListN.{length-append}
-use Rattle.session.proofs.Feeding.{said-short, counts-short}
-use Rattle.session.proofs.Puts.{behind, room, spoke}
+use Rattle.rows.specs.Text.{rowText}
+use Rattle.rows.proofs.Puts.{behind, room, written, spoke}
 use Rattle.session.specs.Bytes.{lastSaid}
+use Rattle.session.proofs.Feeding.{said-short, counts-short}
 use Rattle.session.proofs.finish_in.Statement.{statement}
 use Rattle.session.proofs.finish_in.Tie as tie
 
-say-counts-requires : tie.Need-say-counts-requires
-unfolding lastSaid
-say-counts-requires c = λ κs. room 32 32 (c .before .before .before .before .byte .ensures .1) (said-short _ _) (c .before .before .before .before .before .before .before .before .before .pre)
-
 returns : tie.Need-returns
-unfolding lastSaid
-returns c = let q = c .before .before .before .before .before .before .before .byte .result .session in rw (lt-ltb _ _ (c .before .before .before .before .before .before .before .before .before .if1 .taken), ← c .before .before .before .before .before .before .before .byte .ensures .0) (spoke (behind (c .before .before .before .before .before .before .before .byte .ensures .1) (c .before .before .say-counts .ensures)) (rw length-append (omega (arith, said-short (c .before .before .before .before .before .before .before .before .before .before .before .before .args .s) 10, counts-short (q .lines) (q .refusals)))))
+unfolding lastSaid rowText
+returns c = let q = c .before .before .before .before .before .before .before .byte .result .session in let counts = written (room 32 32 (c .before .before .before .before .before .before .before .byte .ensures .1) (said-short _ _) (c .before .before .before .before .before .before .before .before .before .before .before .before .pre)) (c .before .before .write .ensures) in rw (lt-ltb _ _ (c .before .before .before .before .before .before .before .before .before .if1 .taken), ← c .before .before .before .before .before .before .before .byte .ensures .0) (spoke (behind (c .before .before .before .before .before .before .before .byte .ensures .1) counts) (rw length-append (omega (arith, said-short (c .before .before .before .before .before .before .before .before .before .before .before .before .args .s) 10, counts-short (q .lines) (q .refusals)))))
 
 returns-2 : tie.Need-returns-2
-unfolding lastSaid
-returns-2 c = let s = c .before .before .before .before .before .before .before .args .s in rw (le-ltb _ _ (c .before .before .before .before .if1 .left)) (spoke (c .before .before .say-counts2 .ensures) (omega (arith, counts-short (s .lines) (s .refusals))))
+unfolding lastSaid rowText
+returns-2 c = let s = c .before .before .before .before .before .before .before .args .s in rw (le-ltb _ _ (c .before .before .before .before .if1 .left)) (spoke (written (omega (arith, c .before .before .before .before .before .before .before .pre)) (c .before .before .write2 .ensures)) (omega (arith, counts-short (s .lines) (s .refusals))))
 
 pub finish-in-spec : {M : Type 1} → statement M
-finish-in-spec = tie.close (tie.spec (λ c κs. search needs) say-counts-requires (λ c. search needs) returns (λ c κs. search needs) (λ c. search needs) returns-2)
+finish-in-spec = tie.close (tie.spec (λ c κs. search needs) (λ c κs. search needs) (λ c. search needs) returns (λ c κs. search needs) (λ c. search needs) returns-2)

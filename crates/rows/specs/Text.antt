@@ -1,0 +1,83 @@
+-- The text of the output: document 01, "The session text". Fields are parted by one tab, and numbers are decimal without leading zeros.
+-- Assumes nothing.
+use Prim.Native.Nat.{ℕ, zero, suc, _+_, _/_, _%_, _≤_}
+use mathlib.Core.Path.{_≡_}
+use mathlib.Core.Bool.{cond}
+use mathlib.Core.List.{List, [], _∷_, _++_}
+use lib.Dec.{ltb, leb}
+use lib.ListN.{length, take, drop}
+use lib.Seq.{sets}
+use Rattle.rows.specs.declared.Row.{Row}
+use Rattle.rows.specs.declared.Row.the-variants.{Nothing, Value, Refusal, Counts}
+
+-- == numbers ==
+
+-- the last digit
+abbrev pub glyph : ℕ → ℕ
+glyph n = 48 + n % 10
+
+-- a number below 10 is its digit; any other is the text of its tenth, then its last digit. k more digits hold it
+abbrev pub digits : ℕ → ℕ → List ℕ
+digits zero n = glyph n ∷ []
+digits (suc k) n = cond (ltb n 10) (glyph n ∷ []) (digits k (n / 10) ++ glyph n ∷ [])
+
+-- ten digits hold every number of 32 bits
+unfoldable pub decimal : ℕ → List ℕ
+decimal n = digits 9 n
+
+-- == lines ==
+
+-- fields parted by one tab, and an end behind them
+abbrev pub tabbed : List (List ℕ) → List ℕ → List ℕ
+tabbed [] end = end
+tabbed (f ∷ []) end = f ++ end
+tabbed (f ∷ g ∷ gs) end = f ++ 9 ∷ tabbed (g ∷ gs) end
+
+-- a line of the output
+abbrev pub row : List (List ℕ) → List ℕ
+row fields = tabbed fields (10 ∷ [])
+
+-- a field of one letter
+abbrev pub letter : ℕ → List ℕ
+letter b = b ∷ []
+
+-- the two numbers that end a line, each behind its tab
+abbrev pub numbers : ℕ → ℕ → List ℕ
+numbers m n = 9 ∷ (decimal m ++ 9 ∷ (decimal n ++ 10 ∷ []))
+
+-- E, line number, refusal
+unfoldable pub refusalText : ℕ → ℕ → List ℕ
+refusalText line n = row (letter 69 ∷ decimal line ∷ decimal n ∷ [])
+
+-- R, unit, address, value
+unfoldable pub valueText : ℕ → ℕ → ℕ → List ℕ
+valueText unit address v = row (letter 82 ∷ letter unit ∷ decimal address ∷ decimal v ∷ [])
+
+-- N, lines taken, refusals
+unfoldable pub countsText : ℕ → ℕ → List ℕ
+countsText lines refusals = row (letter 78 ∷ decimal lines ∷ decimal refusals ∷ [])
+
+-- document 01's letter and values for each case
+unfoldable pub rowText : Row → List ℕ
+rowText Nothing = []
+rowText (Value unit address v) = valueText unit address v
+rowText (Refusal line n) = refusalText line n
+rowText (Counts lines refusals) = countsText lines refusals
+
+-- == text in a buffer ==
+
+-- text was stored at the place at, and r is the place behind it
+pub record Put (before : List ℕ) (at : ℕ) (text : List ℕ) (after : List ℕ) (r : ℕ) : Type 0 where
+  pub stored : after ≡ sets before at text
+  pub next : r ≡ at + length text
+
+-- the first r bytes of the buffer are the text, and the others are as they were. The last two parts follow, and are what `&out[..r]` asks of a caller
+pub record Spoke (before text after : List ℕ) (r : ℕ) : Type 0 where
+  pub said : take r after ≡ text
+  pub rest : drop r after ≡ drop r before
+  pub within : r ≤ length after
+  pub counts : r ≡ length (take r after)
+
+-- a line that has no room is not written
+abbrev pub whereRoom : List ℕ → ℕ → List ℕ → List ℕ
+whereRoom out at text = cond (leb (at + 32) (length out)) text []

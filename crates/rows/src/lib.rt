@@ -1,0 +1,139 @@
+// Lines of a session's output: document 01, "The session text". Fields are parted by one tab, and numbers are decimal
+// without leading zeros.
+ghost use mathlib.Core.Path.{_≡_};
+ghost use mathlib.Core.List.{[], _∷_};
+ghost use Prim.Native.Nat.{_+_, _≤_, _<_};
+ghost use lib.Dec.{leb};
+ghost use lib.ListN.{length};
+ghost use Rattle.rows.specs.Text;
+ghost use Rattle.rows.specs.Text.{Put};
+
+// A line of the output: none, R with unit, address and value, E with line number and refusal, N with lines and refusals.
+pub enum Row {
+    Nothing,
+    Value(u8, u8, u8),
+    Refusal(u16, u8),
+    Counts(u16, u16),
+}
+
+fn put(out: &mut [u8], at: usize, b: u8) -> usize
+    requires { ⌜ at < length (now out) ⌝ }
+    ensures { λ r. ⌜ Put (now (out .entry)) at (b ∷ []) (now (out .exit)) r ⌝ }
+{
+    out[at] = b;
+    at + 1
+}
+
+// The last digit of a number.
+fn glyph(n: u32) -> u8
+    ensures { λ r. ⌜ r ≡ Text.glyph n ⌝ }
+{
+    48 + (n % 10) as u8
+}
+
+fn decimal(out: &mut [u8], at: usize, n: u32) -> usize
+    requires { ⌜ at + 10 ≤ length (now out) ⌝ }
+    ensures { λ r. ⌜ Put (now (out .entry)) at (Text.decimal n) (now (out .exit)) r ⌝ }
+{
+    let g = glyph(n);
+    if n < 10 {
+        return put(out, at, g);
+    }
+    let e = decimal(out, at, n / 10);
+    put(out, e, g)
+}
+
+fn field(out: &mut [u8], at: usize, n: u32) -> usize
+    requires { ⌜ at + 11 ≤ length (now out) ⌝ }
+    ensures { λ r. ⌜ Put (now (out .entry)) at (9 ∷ Text.decimal n) (now (out .exit)) r ⌝ }
+{
+    let e = put(out, at, 9);
+    decimal(out, e, n)
+}
+
+// The two numbers that end a line.
+fn numbers(out: &mut [u8], at: usize, m: u32, n: u32) -> usize
+    requires { ⌜ at + 23 ≤ length (now out) ⌝ }
+    ensures { λ r. ⌜ Put (now (out .entry)) at (Text.numbers m n) (now (out .exit)) r ⌝ }
+{
+    let e = field(out, at, m);
+    let f = field(out, e, n);
+    put(out, f, 10)
+}
+
+fn wide(n: u16) -> u32
+    ensures { λ r. ⌜ r ≡ n ⌝ }
+{
+    n as u32
+}
+
+fn wide_byte(n: u8) -> u32
+    ensures { λ r. ⌜ r ≡ n ⌝ }
+{
+    n as u32
+}
+
+fn say_refusal(out: &mut [u8], at: usize, line: u16, n: u8) -> usize
+    requires { ⌜ at + 32 ≤ length (now out) ⌝ }
+    ensures { λ r. ⌜ Put (now (out .entry)) at (Text.refusalText line n) (now (out .exit)) r ⌝ }
+{
+    let l = wide(line);
+    let m = wide_byte(n);
+    let e = put(out, at, 69);
+    numbers(out, e, l, m)
+}
+
+fn say_value(out: &mut [u8], at: usize, unit: u8, address: u8, v: u8) -> usize
+    requires { ⌜ at + 32 ≤ length (now out) ⌝ }
+    ensures { λ r. ⌜ Put (now (out .entry)) at (Text.valueText unit address v) (now (out .exit)) r ⌝ }
+{
+    let m = wide_byte(address);
+    let n = wide_byte(v);
+    let e = put(out, at, 82);
+    let f = put(out, e, 9);
+    let g = put(out, f, unit);
+    numbers(out, g, m, n)
+}
+
+fn say_counts(out: &mut [u8], at: usize, lines: u16, refusals: u16) -> usize
+    requires { ⌜ at + 32 ≤ length (now out) ⌝ }
+    ensures { λ r. ⌜ Put (now (out .entry)) at (Text.countsText lines refusals) (now (out .exit)) r ⌝ }
+{
+    let m = wide(lines);
+    let n = wide(refusals);
+    let e = put(out, at, 78);
+    numbers(out, e, m, n)
+}
+
+fn say(out: &mut [u8], at: usize, row: Row) -> usize
+    requires { ⌜ at + 32 ≤ length (now out) ⌝ }
+    ensures { λ r. ⌜ Put (now (out .entry)) at (Text.rowText row) (now (out .exit)) r ⌝ }
+{
+    match row {
+        Row::Nothing => at,
+        Row::Value(unit, address, v) => say_value(out, at, unit, address, v),
+        Row::Refusal(line, n) => say_refusal(out, at, line, n),
+        Row::Counts(lines, refusals) => say_counts(out, at, lines, refusals),
+    }
+}
+
+// Whether 32 bytes are left behind a place, as no line has more.
+fn has_room(size: usize, at: usize) -> bool
+    ensures { λ r. ⌜ r ≡ leb (at + 32) size ⌝ }
+{
+    if size < at {
+        return false;
+    }
+    32 <= size - at
+}
+
+// Writes a line at a place of the buffer where 32 bytes are left for it, and else nothing. It answers the place behind.
+pub fn write(out: &mut [u8], at: usize, row: Row) -> usize
+    ensures { λ r. ⌜ Put (now (out .entry)) at (Text.whereRoom (now (out .entry)) at (Text.rowText row)) (now (out .exit)) r ⌝ }
+{
+    let fits = has_room(out.len(), at);
+    if fits {
+        return say(out, at, row);
+    }
+    at
+}
