@@ -3,7 +3,7 @@
 use mathlib.Core.Path.{_≡_, refl, sym, _∙_, ap}
 use mathlib.Core.List.{List, [], _∷_, _++_, append-assoc, append-nil}
 use mathlib.Core.Bool.{Bool, true, false, cond}
-use Prim.Native.Nat.{ℕ, suc, _+_, _-_, _≤_, _<_, min}
+use Prim.Native.Nat.{ℕ, suc, _+_, _-_, _%_, _≤_, _<_, min}
 use native.Mathlib.Omega.{arith}
 use native.Mathlib.Nat.{add-zero}
 use native.Mathlib.Numerals.{add-one}
@@ -14,12 +14,12 @@ use lib.Seq.{take-nil, take-all}
 use Rattle.fields.specs.Parted.{parts}
 use Rattle.fields.specs.Reading.{empty, push, pushes}
 use Rattle.fields.proofs.Gathered.{onto, onto-first, onto-none, fields-held}
+use Rattle.line.proofs.Choice.{either}
 use Rattle.joined.specs.declared.Pair.{Pair}
 use Rattle.session.specs.declared.Said.{Said}
-use Rattle.session.specs.declared.Said.the-variants.{Nothing, Value, Refusal}
 use Rattle.session.specs.declared.Session.{Session}
 use Rattle.records.proofs.Held.{held-record}
-use Rattle.session.specs.Calls.{lineReply, saidText}
+use Rattle.session.specs.Calls.{lineReply, number, saidText}
 use Rattle.rows.specs.Text.{countsText}
 use Rattle.session.specs.Rows.{newlines, lacking}
 use Rattle.session.specs.Whole.{unlessEmpty, filled, linesOf, linesTaken, answers, refusals, texts, whole, answerText}
@@ -79,14 +79,14 @@ rest p n f ls = texts (suc n) (answers p ls) ++ countsText (n + length ls) (f + 
 
 -- a refused line counts as one
 abbrev fault : Said → ℕ
-fault Nothing = 0
-fault (Value unit address v) = 0
-fault (Refusal n) = 1
+fault s = cond (ltb 0 (number s)) 1 0
 
 one-more : (f : ℕ) (s : Said) (ss : List Said) → f + refusals (s ∷ ss) ≡ f + fault s + refusals ss
-one-more f Nothing ss = omega arith
-one-more f (Value unit address v) ss = omega arith
-one-more f (Refusal n) ss = omega arith
+one-more f s ss = go (ltb 0 (number s))
+  where
+    go : (t : Bool) → f + cond t (suc (refusals ss)) (refusals ss) ≡ f + cond t 1 0 + refusals ss
+    go true = omega arith
+    go false = omega arith
 
 rest-more :
     (p : Pair) (n f : ℕ) (l : List ℕ) (ls : List (List ℕ))
@@ -142,20 +142,20 @@ pushed-keeps : (s : Session) (b : ℕ) (P : Pair → ℕ → ℕ → List ℕ) �
 unfolding pushed
 pushed-keeps s b P = refl
 
-counted-is : (n : ℕ) (s : Said) → n < 65535 → counted n s ≡ n + fault s
-counted-is n Nothing h = omega arith
-counted-is n (Value unit address v) h = omega arith
-counted-is n (Refusal r) h = omega arith
+counted-is : (n : ℕ) (s : Said) → n < 65535 → counted n (number s) ≡ n + fault s
+counted-is n s h = go (ltb 0 (number s))
+  where
+    go : (t : Bool) → cond t ((n + 1) % 65536) n ≡ n + cond t 1 0
+    go true = omega arith
+    go false = omega arith
 
 fault-few : (s : Said) → fault s ≤ 1
-fault-few Nothing = omega arith
-fault-few (Value unit address v) = omega arith
-fault-few (Refusal r) = omega arith
+fault-few s = either (λ (k : ℕ). k ≤ 1) (ltb 0 (number s)) (omega arith) (omega arith)
 
 -- == a line's end ==
 
 module _ {s : Session} {h : List ℕ} (p : Holds s h) (more : s .lines < 65535) where
-  refused-is : counted (s .refusals) (heldReply s .said) ≡ s .refusals + fault (heldReply s .said)
+  refused-is : counted (s .refusals) (number (heldReply s .said)) ≡ s .refusals + fault (heldReply s .said)
   refused-is = counted-is (s .refusals) (heldReply s .said) (omega (arith, p .few))
 
   holds-end : Holds (ended s) []

@@ -6,26 +6,21 @@ use mathlib.Core.Bool.{Bool, true, false, cond, not, _&&_}
 use Prim.Native.Nat.{ℕ, suc, _≤_}
 use native.Mathlib.Omega.{arith}
 use borrow.Author.Tests.{eqb-true, ne-eqb}
-use lib.Dec.{eqb}
+use lib.Dec.{ltb, eqb}
 use lib.ListN.{length}
 use Rattle.fields.specs.Parted.{fieldsOf}
 use Rattle.ins2651.specs.declared.Device.{Device}
-use Rattle.ins2651.specs.RegisterReads.{read}
-use Rattle.ins2651.specs.RegisterWrites.{write}
-use Rattle.ins2651.specs.Pinning.{setPins}
 use Rattle.ins2651.specs.Runs as chip
-use Rattle.ins2651.specs.Rows.{refusal}
 use Rattle.ins2651.proofs.Refused.{given-exactly, answers-refusal, refused-unchanged}
 use Rattle.joined.specs.declared.Pair.{Pair}
 use Rattle.joined.specs.Bench.{Bench, A, B, Step, At, step, runs}
 use Rattle.joined.proofs.Promised.{ticks-are-the-run}
 use Rattle.line.specs.Sending.{bit}
-use Rattle.line.proofs.Choice.{each, either}
+use Rattle.line.proofs.Choice.{each}
 use Rattle.records.specs.declared.Record.{Record}
 use Rattle.records.specs.declared.Record.the-variants.{Write, Read, Pins, Reset, Ticks, Shapeless}
 use Rattle.session.specs.declared.Said.{Said}
 use Rattle.session.specs.declared.Said.the-variants.{Nothing, Value}
-use Rattle.session.specs.declared.Reply.{Reply}
 use Rattle.records.specs.Records.{recordOf}
 use Rattle.session.specs.Calls.{deviceOf, putBack, verdict, refused, obey, lineReply, number}
 use Rattle.session.specs.Rows.{shapeless, ownRefusal, overlong, lineRefusal, lineRefusals, given}
@@ -114,32 +109,10 @@ refused-keeps p l = go (overlong l)
 
 -- == the counts of N ==
 
--- what is said counts as refused exactly where its number is not 0: the refusal 0 is never said
-abbrev Counts : Said → Type 0
-Counts s = (ss : List Said) → refusals (s ∷ ss) ≡ cond (eqb (number s) 0) (refusals ss) (suc (refusals ss))
-
-verdict-counts : (n : ℕ) (s : Said) → Counts s → Counts (verdict n s)
-verdict-counts n s e = each Counts (eqb n 0) (λ t. e) (λ t ss. rw t)
-
-record-counts : (p : Pair) (r : Record) → Counts (obey p r .said)
-unfolding obey
-record-counts p (Write unit address v) = verdict-counts (write (deviceOf p unit) address v .refusal) Nothing (λ ss. refl)
-record-counts p (Read unit address) = verdict-counts (read (deviceOf p unit) address .refusal) (Value unit address (read (deviceOf p unit) address .value)) (λ ss. refl)
-record-counts p (Pins unit dsr dcd cts) = verdict-counts (setPins (deviceOf p unit) dsr dcd cts .refusal) Nothing (λ ss. refl)
-record-counts p (Reset unit) = λ ss. refl
-record-counts p (Ticks count) = λ ss. refl
-record-counts p Shapeless = λ ss. refl
-
-line-counts : (p : Pair) (l : List ℕ) → Counts (lineReply p l .said)
-unfolding lineReply
-line-counts p l = either (λ (r : Reply). Counts (r .said)) (overlong l) {x = refused p 7} (λ ss. refl) (record-counts p (recordOf (fieldsOf l)))
-
 -- the refusals are the lines that are given a number
 pub refusals-given : (p : Pair) (ls : List (List ℕ)) → refusals (answers p ls) ≡ given (lineRefusals p ls)
 refusals-given p [] = refl
-refusals-given p (l ∷ ls) =
-    line-counts p l (answers (lineReply p l .pair) ls)
-    ∙ rw line-number (ap (λ (k : ℕ). cond (eqb (lineRefusal p l) 0) k (suc k)) (refusals-given (lineReply p l .pair) ls))
+refusals-given p (l ∷ ls) = rw line-number (ap (λ (k : ℕ). cond (ltb 0 (lineRefusal p l)) (suc k) k) (refusals-given (lineReply p l .pair) ls))
 
 pub as-many-answers : (p : Pair) (ls : List (List ℕ)) → length (answers p ls) ≡ length ls
 as-many-answers p [] = refl

@@ -6,12 +6,10 @@ use mathlib.Core.List.{List, [], _∷_, _++_}
 use lib.Dec.{eqb, ltb}
 use lib.ListN.{length}
 use Rattle.fields.specs.Reading.{empty, push}
-use Rattle.session.specs.declared.Said.{Said}
-use Rattle.session.specs.declared.Said.the-variants.{Nothing, Value, Refusal}
 use Rattle.session.specs.declared.Reply.{Reply}
 use Rattle.session.specs.declared.Session.{Session}
 use Rattle.records.specs.Records.{heldRecord}
-use Rattle.session.specs.Calls.{freshPair, refused, obey, saidText}
+use Rattle.session.specs.Calls.{freshPair, refused, obey, number, saidText}
 use Rattle.rows.specs.Text.{countsText}
 
 abbrev pub fresh : Session
@@ -32,13 +30,11 @@ heldReply s = cond (ltb 64 (s .length)) (refused (s .pair) 7) (obey (s .pair) (h
 -- == a line's end ==
 
 -- a refused line counts; in 16 bits, which the lines never leave
-abbrev pub counted : ℕ → Said → ℕ
-counted n Nothing = n
-counted n (Value unit address v) = n
-counted n (Refusal r) = (n + 1) % 65536
+abbrev pub counted : ℕ → ℕ → ℕ
+counted n refusal = cond (ltb 0 refusal) ((n + 1) % 65536) n
 
 abbrev pub nextLine : Session → Reply → Session
-nextLine s r = record { pair = r .pair; lines = s .lines + 1; refusals = counted (s .refusals) (r .said); length = 0; fields = empty }
+nextLine s r = record { pair = r .pair; lines = s .lines + 1; refusals = counted (s .refusals) (number (r .said)); length = 0; fields = empty }
 
 unfoldable pub ended : Session → Session
 ended s = nextLine s (heldReply s)

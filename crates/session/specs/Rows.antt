@@ -47,7 +47,7 @@ lineRefusals p (l ∷ ls) = lineRefusal p l ∷ lineRefusals (lineReply p l .pai
 -- how many are not 0
 abbrev pub given : List ℕ → ℕ
 given [] = 0
-given (n ∷ ns) = cond (eqb n 0) (given ns) (suc (given ns))
+given (n ∷ ns) = cond (ltb 0 n) (suc (given ns)) (given ns)
 
 -- how many newlines a text has
 abbrev pub newlines : List ℕ → ℕ

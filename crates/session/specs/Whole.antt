@@ -1,13 +1,14 @@
 -- The whole output as a function of the whole input: document 01, "The session text".
 -- Assumes nothing.
 use Prim.Native.Nat.{ℕ, suc}
+use mathlib.Core.Bool.{cond}
 use mathlib.Core.List.{List, [], _∷_, _++_}
+use lib.Dec.{ltb}
 use lib.ListN.{length, take}
 use Rattle.fields.specs.Parted.{parts}
 use Rattle.joined.specs.declared.Pair.{Pair}
 use Rattle.session.specs.declared.Said.{Said}
-use Rattle.session.specs.declared.Said.the-variants.{Nothing, Value, Refusal}
-use Rattle.session.specs.Calls.{freshPair, lineReply, saidText}
+use Rattle.session.specs.Calls.{freshPair, lineReply, number, saidText}
 use Rattle.rows.specs.Text.{countsText}
 
 -- == lines ==
@@ -37,12 +38,10 @@ abbrev pub answers : Pair → List (List ℕ) → List Said
 answers p [] = []
 answers p (l ∷ ls) = lineReply p l .said ∷ answers (lineReply p l .pair) ls
 
--- how many lines are refused
+-- how many lines are refused: given a number other than 0
 abbrev pub refusals : List Said → ℕ
 refusals [] = 0
-refusals (Nothing ∷ ss) = refusals ss
-refusals (Value unit address v ∷ ss) = refusals ss
-refusals (Refusal n ∷ ss) = suc (refusals ss)
+refusals (s ∷ ss) = cond (ltb 0 (number s)) (suc (refusals ss)) (refusals ss)
 
 -- == text ==
 

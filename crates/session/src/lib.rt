@@ -76,6 +76,17 @@ fn put_back(p: Pair, unit: u8, d: Device) -> Pair
     next
 }
 
+// Document 01's number for what is said: 0 is done.
+fn number(said: Said) -> u8
+    ensures { λ r. ⌜ r ≡ Calls.number said ⌝ }
+{
+    match said {
+        Said::Nothing => 0,
+        Said::Value(_, _, _) => 0,
+        Said::Refusal(n) => n,
+    }
+}
+
 // What is said of a call that would say this if it were done.
 fn verdict(refusal: u8, said: Said) -> Said
     ensures { λ r. ⌜ r ≡ Calls.verdict refusal said ⌝ }
@@ -207,15 +218,14 @@ fn held_reply(s: Session) -> Reply
     obey(s.pair, records::record_of(s.fields))
 }
 
-// The refusals so far, with this line's. They are never more than the lines.
-fn counted(n: u16, said: Said) -> u16
-    ensures { λ r. ⌜ r ≡ Bytes.counted n said ⌝ }
+// The refusals so far, with a line's of this number. They are never more than the lines.
+fn counted(n: u16, refusal: u8) -> u16
+    ensures { λ r. ⌜ r ≡ Bytes.counted n refusal ⌝ }
 {
-    match said {
-        Said::Nothing => n,
-        Said::Value(_, _, _) => n,
-        Said::Refusal(_) => std::num::wrapping_add_u16(n, 1),
+    if 0 < refusal {
+        return std::num::wrapping_add_u16(n, 1);
     }
+    n
 }
 
 // The session after a line with this reply.
@@ -228,7 +238,7 @@ fn next_line(s: Session, r: Reply) -> Session
     Session {
         pair,
         lines: s.lines + 1,
-        refusals: counted(s.refusals, said),
+        refusals: counted(s.refusals, number(said)),
         length: 0,
         fields: fields::empty(),
     }

@@ -5,7 +5,7 @@ use Rattle.session.proofs.next_line.Statement.{statement}
 use Rattle.session.proofs.next_line.Tie as tie
 
 returns : tie.Need-returns
-returns c = rw (c .empty .ensures, c .before .counted .ensures)
+returns c = rw (c .empty .ensures, c .before .counted .ensures, c .before .before .number .ensures)
 
 pub next-line-spec : {M : Type 1} → statement M
-next-line-spec = tie.close (tie.spec (λ c. search needs) (λ c κs. search needs) (λ c κs. search needs) returns)
+next-line-spec = tie.close (tie.spec (λ c. search needs) (λ c κs. search needs) (λ c κs. search needs) (λ c κs. search needs) returns)
