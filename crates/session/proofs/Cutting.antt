@@ -3,7 +3,7 @@
 use mathlib.Core.Path.{_≡_, refl, sym, _∙_, ap}
 use mathlib.Core.List.{List, [], _∷_, _++_, append-assoc, append-nil}
 use mathlib.Core.Bool.{Bool, true, false, cond}
-use Prim.Native.Nat.{ℕ, suc, _+_, _-_, _%_, _≤_, _<_, min}
+use Prim.Native.Nat.{ℕ, suc, _+_, _-_, _≤_, _<_, min}
 use native.Mathlib.Omega.{arith}
 use native.Mathlib.Nat.{add-zero}
 use native.Mathlib.Numerals.{add-one}
@@ -143,11 +143,11 @@ unfolding pushed
 pushed-keeps s b P = refl
 
 counted-is : (n : ℕ) (s : Said) → n < 65535 → counted n (number s) ≡ n + fault s
-counted-is n s h = go (ltb 0 (number s))
+counted-is n s h = go (ltb 0 (number s)) refl
   where
-    go : (t : Bool) → cond t ((n + 1) % 65536) n ≡ n + cond t 1 0
-    go true = omega arith
-    go false = omega arith
+    go : (t : Bool) → ltb 0 (number s) ≡ t → counted n (number s) ≡ n + fault s
+    go true e = rw e (omega arith)
+    go false e = rw e (omega arith)
 
 fault-few : (s : Said) → fault s ≤ 1
 fault-few s = either (λ (k : ℕ). k ≤ 1) (ltb 0 (number s)) (omega arith) (omega arith)

@@ -2,7 +2,7 @@
 -- Assumes nothing.
 use mathlib.Core.Path.{_≡_, refl, sym, _∙_, ap}
 use mathlib.Core.List.{List, [], _∷_, _++_, append-assoc, append-nil}
-use mathlib.Core.Bool.{cond}
+use mathlib.Core.Bool.{Bool, true, false}
 use Prim.Native.Nat.{ℕ, suc, _+_, _-_, _≤_, _<_}
 use native.Mathlib.Omega.{arith}
 use native.Mathlib.Nat.{add-zero}
@@ -11,7 +11,6 @@ use borrow.Author.Tests.{lt-ltb, le-ltb}
 use lib.Dec.{ltb, eqb}
 use lib.ListN.{length, take, drop, getD, drop-of-length-le}
 use lib.Seq.{take-suc, drop-cons}
-use Rattle.line.proofs.Choice.{either}
 use Rattle.session.specs.declared.Said.{Said}
 use Rattle.session.specs.declared.Session.{Session}
 use Rattle.rows.specs.declared.Row.the-variants.{Counts}
@@ -33,13 +32,12 @@ counts-short m n = row-short (Counts m n)
 
 pub said-short : (s : Session) (b : ℕ) → length (said s b) ≤ 32
 unfolding said
-said-short s b =
-    let Short : List ℕ → Type 0 = λ l. length l ≤ 32 in
-    let nothing : Short [] = omega arith in
-    either Short (ltb (s .lines) 65535)
-    {x = cond (eqb b 10) (saidText (s .lines + 1) (heldReply s .said)) []}
-    (either Short (eqb b 10) (said-text-short (s .lines + 1) (heldReply s .said)) nothing)
-    nothing
+said-short s b = go (ltb (s .lines) 65535) refl (eqb b 10) refl
+  where
+    go : (t : Bool) → ltb (s .lines) 65535 ≡ t → (u : Bool) → eqb b 10 ≡ u → length (said s b) ≤ 32
+    go true e true f = rw (e, f) (said-text-short _ (heldReply s .said))
+    go true e false f = rw (e, f) (omega arith)
+    go false e u f = rw e (omega arith)
 
 -- == bytes behind bytes ==
 
