@@ -23,7 +23,7 @@ use Rattle.session.specs.Calls.{lineReply, number, saidText}
 use Rattle.rows.specs.Text.{countsText}
 use Rattle.session.specs.Rows.{newlines, lacking}
 use Rattle.session.specs.Whole.{unlessEmpty, filled, linesOf, linesTaken, answers, refusals, texts, whole, answerText}
-use Rattle.session.specs.Bytes.{fresh, longer, pushed, heldReply, counted, ended, after, said, afterAll, saidAll, lastSaid}
+use Rattle.session.specs.Bytes.{goesOn, fresh, longer, pushed, heldReply, counted, ended, after, said, afterAll, saidAll, lastSaid}
 
 -- == the input's lines, one by one ==
 
@@ -179,34 +179,34 @@ module _ {s : Session} {h : List ℕ} (p : Holds s h) (more : s .lines < 65535) 
 -- == a byte ==
 
 module _ (s : Session) (b : ℕ) where
-  stop-after : ltb (s .lines) 65535 ≡ false → after s b ≡ s
+  stop-after : goesOn s ≡ false → after s b ≡ s
   unfolding after
   stop-after e = rw e
 
-  stop-said : ltb (s .lines) 65535 ≡ false → said s b ≡ []
+  stop-said : goesOn s ≡ false → said s b ≡ []
   unfolding said
   stop-said e = rw e
 
-  line-after : ltb (s .lines) 65535 ≡ true → eqb b 10 ≡ true → after s b ≡ ended s
+  line-after : goesOn s ≡ true → eqb b 10 ≡ true → after s b ≡ ended s
   unfolding after
   line-after e f = rw (e, f)
 
-  line-said : ltb (s .lines) 65535 ≡ true → eqb b 10 ≡ true → said s b ≡ saidText (suc (s .lines)) (heldReply s .said)
+  line-said : goesOn s ≡ true → eqb b 10 ≡ true → said s b ≡ saidText (suc (s .lines)) (heldReply s .said)
   unfolding said
   line-said e f = rw (e, f, add-one)
 
-  more-after : ltb (s .lines) 65535 ≡ true → eqb b 10 ≡ false → after s b ≡ pushed s b
+  more-after : goesOn s ≡ true → eqb b 10 ≡ false → after s b ≡ pushed s b
   unfolding after
   more-after e f = rw (e, f)
 
-  more-said : ltb (s .lines) 65535 ≡ true → eqb b 10 ≡ false → said s b ≡ []
+  more-said : goesOn s ≡ true → eqb b 10 ≡ false → said s b ≡ []
   unfolding said
   more-said e f = rw (e, f)
 
 -- == the whole ==
 
 -- after the last line that is taken nothing is looked at
-module _ (s : Session) (e : ltb (s .lines) 65535 ≡ false) where
+module _ (s : Session) (e : goesOn s ≡ false) where
   stopped-last : lastSaid s ≡ countsText (s .lines) (s .refusals)
   unfolding lastSaid
   stopped-last = rw (stop-said s 10 e, stop-after s 10 e) (go (ltb 0 (s .length)))
@@ -229,16 +229,16 @@ Claim input s h =
     saidAll s input ++ lastSaid (afterAll s input)
     ≡ rest (s .pair) (s .lines) (s .refusals) (take (65535 - s .lines) (linesFrom h input))
 
-no-more : (input : List ℕ) (s : Session) (h : List ℕ) → ltb (s .lines) 65535 ≡ false → Claim input s h
+no-more : (input : List ℕ) (s : Session) (h : List ℕ) → goesOn s ≡ false → Claim input s h
 no-more input s h e =
     let z : 65535 - s .lines ≡ 0 = omega (arith, ltb-false) in
     rw (z, stopped-said s e input, stopped-after s e input, rest-none) (stopped-last s e)
 
 last : {s : Session} (h : List ℕ) → Holds s h → Claim [] s h
 unfolding lastSaid
-last {s} h p = go (ltb (s .lines) 65535) refl h p
+last {s} h p = go (goesOn s) refl h p
   where
-    go : (t : Bool) → ltb (s .lines) 65535 ≡ t → (h : List ℕ) → Holds s h → Claim [] s h
+    go : (t : Bool) → goesOn s ≡ t → (h : List ℕ) → Holds s h → Claim [] s h
     go false e h p = no-more [] s h e
     go true e [] p = rw (le-ltb 0 (s .length) (omega (arith, p .size)), take-nil, rest-none)
     go true e (x ∷ xs) p =
@@ -249,9 +249,9 @@ last {s} h p = go (ltb (s .lines) 65535) refl h p
 step :
     (b : ℕ) (bs : List ℕ) {s : Session} (h : List ℕ) → Holds s h
     → ((s : Session) (h : List ℕ) → Holds s h → Claim bs s h) → Claim (b ∷ bs) s h
-step b bs {s} h p ih = go (ltb (s .lines) 65535) refl (eqb b 10) refl
+step b bs {s} h p ih = go (goesOn s) refl (eqb b 10) refl
   where
-    go : (t : Bool) → ltb (s .lines) 65535 ≡ t → (u : Bool) → eqb b 10 ≡ u → Claim (b ∷ bs) s h
+    go : (t : Bool) → goesOn s ≡ t → (u : Bool) → eqb b 10 ≡ u → Claim (b ∷ bs) s h
     go false e u f = no-more (b ∷ bs) s h e
     go true e true f =
         let k : 65535 - s .lines ≡ suc (65535 - suc (s .lines)) = omega (arith, ltb-true) in

@@ -8,7 +8,7 @@ use native.Mathlib.Omega.{arith}
 use native.Mathlib.Nat.{add-zero}
 use native.Mathlib.Numerals.{add-one}
 use borrow.Author.Tests.{lt-ltb, le-ltb}
-use lib.Dec.{ltb, eqb}
+use lib.Dec.{eqb}
 use lib.ListN.{length, take, drop, getD, drop-of-length-le}
 use lib.Seq.{take-suc, drop-cons}
 use Rattle.session.specs.declared.Said.{Said}
@@ -16,7 +16,7 @@ use Rattle.session.specs.declared.Session.{Session}
 use Rattle.rows.specs.declared.Row.the-variants.{Counts}
 use Rattle.rows.specs.Text.{Put, Spoke, rowText, countsText}
 use Rattle.session.specs.Calls.{rowOf, saidText}
-use Rattle.session.specs.Bytes.{heldReply, after, said, afterAll, saidAll, taken}
+use Rattle.session.specs.Bytes.{goesOn, heldReply, after, said, afterAll, saidAll, taken}
 use Rattle.rows.proofs.Decimals.{row-short}
 use Rattle.rows.proofs.Puts.{behind, none-put, put-length, spoke}
 
@@ -32,9 +32,9 @@ counts-short m n = row-short (Counts m n)
 
 pub said-short : (s : Session) (b : ℕ) → length (said s b) ≤ 32
 unfolding said
-said-short s b = go (ltb (s .lines) 65535) refl (eqb b 10) refl
+said-short s b = go (goesOn s) refl (eqb b 10) refl
   where
-    go : (t : Bool) → ltb (s .lines) 65535 ≡ t → (u : Bool) → eqb b 10 ≡ u → length (said s b) ≤ 32
+    go : (t : Bool) → goesOn s ≡ t → (u : Bool) → eqb b 10 ≡ u → length (said s b) ≤ 32
     go true e true f = rw (e, f) (said-text-short _ (heldReply s .said))
     go true e false f = rw (e, f) (omega arith)
     go false e u f = rw e (omega arith)

@@ -22,7 +22,7 @@ use Rattle.records.specs.declared.Record.the-variants.{Write, Read, Pins, Reset
 use Rattle.session.specs.declared.Said.{Said}
 use Rattle.session.specs.declared.Said.the-variants.{Nothing, Value}
 use Rattle.records.specs.Records.{recordOf}
-use Rattle.session.specs.Calls.{deviceOf, putBack, verdict, refused, obey, lineReply, number}
+use Rattle.session.specs.Calls.{deviceOf, putBack, verdict, obey, lineReply, number}
 use Rattle.session.specs.Rows.{shapeless, ownRefusal, overlong, lineRefusal, lineRefusals, given}
 use Rattle.session.specs.Steps.{side, recordSteps, lineSteps, allSteps, pairAfter}
 use Rattle.session.specs.Whole.{answers, refusals}
@@ -44,14 +44,11 @@ record-number p Shapeless = refl
 
 pub line-number : (p : Pair) (l : List ℕ) → number (lineReply p l .said) ≡ lineRefusal p l
 unfolding lineReply
-line-number p l = go (overlong l)
+line-number p l = go (overlong l) refl
   where
-    r : Record
-    r = recordOf (fieldsOf l)
-
-    go : (t : Bool) → number (cond t (refused p 7) (obey p r) .said) ≡ cond t 7 (cond (shapeless r) 6 (ownRefusal p r))
-    go true = refl
-    go false = record-number p r
+    go : (t : Bool) → overlong l ≡ t → number (lineReply p l .said) ≡ lineRefusal p l
+    go true e = rw e
+    go false e = rw e (record-number p (recordOf (fieldsOf l)))
 
 own-most : (p : Pair) (r : Record) → ownRefusal p r ≤ 5
 own-most p (Write unit address v) = given-exactly (deviceOf p unit) (chip.Write address v) .most
@@ -98,14 +95,11 @@ record-keeps p Shapeless h = refl
 
 pub refused-keeps : (p : Pair) (l : List ℕ) → (lineRefusal p l ≡ 0 → ⊥) → lineReply p l .pair ≡ p
 unfolding lineReply
-refused-keeps p l = go (overlong l)
+refused-keeps p l h = go (overlong l) refl
   where
-    r : Record
-    r = recordOf (fieldsOf l)
-
-    go : (t : Bool) → (cond t 7 (cond (shapeless r) 6 (ownRefusal p r)) ≡ 0 → ⊥) → cond t (refused p 7) (obey p r) .pair ≡ p
-    go true h = refl
-    go false h = record-keeps p r h
+    go : (t : Bool) → overlong l ≡ t → lineReply p l .pair ≡ p
+    go true e = rw e
+    go false e = rw e (record-keeps p (recordOf (fieldsOf l)) (rw e at h))
 
 -- == the counts of N ==
 
@@ -142,14 +136,11 @@ record-steps w Shapeless = refl
 
 line-steps : (w : Bench) (l : List ℕ) → runs w (lineSteps l) .pair ≡ lineReply (w .pair) l .pair
 unfolding lineReply
-line-steps w l = go (overlong l)
+line-steps w l = go (overlong l) refl
   where
-    r : Record
-    r = recordOf (fieldsOf l)
-
-    go : (t : Bool) → runs w (cond t [] (recordSteps r)) .pair ≡ cond t (refused (w .pair) 7) (obey (w .pair) r) .pair
-    go true = refl
-    go false = record-steps w r
+    go : (t : Bool) → overlong l ≡ t → runs w (lineSteps l) .pair ≡ lineReply (w .pair) l .pair
+    go true e = rw e
+    go false e = rw e (record-steps w (recordOf (fieldsOf l)))
 
 -- the two devices after a session's lines are the bench's after their steps: what demand 3 says of the steps it says of the lines
 pub lines-are-steps : (w : Bench) (ls : List (List ℕ)) → runs w (allSteps ls) .pair ≡ pairAfter (w .pair) ls

@@ -12,7 +12,7 @@ use lib.Seq.{take-take}
 use Rattle.line.proofs.Choice.{not-so}
 use Rattle.session.specs.declared.Session.{Session}
 use Rattle.session.specs.Whole.{answerText}
-use Rattle.session.specs.Bytes.{fresh, after, said, afterAll, saidAll, taken, lastSaid}
+use Rattle.session.specs.Bytes.{goesOn, fresh, after, said, afterAll, saidAll, taken, lastSaid}
 use Rattle.session.specs.Offers.{Host, begun, Offer, bytesTaken, offer, offers, none, over}
 use Rattle.session.proofs.Feeding.{said-short, after-append, said-append}
 use Rattle.session.proofs.Cutting.{stopped-after, stopped-said, whole-input}
@@ -78,12 +78,12 @@ sent (o ∷ os) p = sent os (sent-more o p)
 ended : {input : List ℕ} {h : Host} → Sent input h → over h ≡ true → h .written ++ lastSaid (h .session) ≡ saidAll fresh input ++ lastSaid (afterAll fresh input)
 ended {input} {h} p e = rw (p .split, said-append, after-append, ← p .state, p .text) (go (h .left) e)
   where
-    stopped : (left : List ℕ) → ltb (h .session .lines) 65535 ≡ false → saidAll fresh (p .given) ++ lastSaid (h .session) ≡ (saidAll fresh (p .given) ++ saidAll (h .session) left) ++ lastSaid (afterAll (h .session) left)
+    stopped : (left : List ℕ) → goesOn (h .session) ≡ false → saidAll fresh (p .given) ++ lastSaid (h .session) ≡ (saidAll fresh (p .given) ++ saidAll (h .session) left) ++ lastSaid (afterAll (h .session) left)
     stopped left f = rw (stopped-said (h .session) f left, stopped-after (h .session) f left, append-nil)
 
-    go : (left : List ℕ) → (none left || not (ltb (h .session .lines) 65535)) ≡ true → saidAll fresh (p .given) ++ lastSaid (h .session) ≡ (saidAll fresh (p .given) ++ saidAll (h .session) left) ++ lastSaid (afterAll (h .session) left)
+    go : (left : List ℕ) → (none left || not (goesOn (h .session))) ≡ true → saidAll fresh (p .given) ++ lastSaid (h .session) ≡ (saidAll fresh (p .given) ++ saidAll (h .session) left) ++ lastSaid (afterAll (h .session) left)
     go [] e = rw append-nil
-    go (b ∷ bs) e = stopped (b ∷ bs) (not-so (ltb (h .session .lines) 65535) e)
+    go (b ∷ bs) e = stopped (b ∷ bs) (not-so (goesOn (h .session)) e)
 
 -- for every input and every way of handing it over: once nothing is left, or all the lines that are taken are, what the calls wrote
 -- and what `finish` adds is the answer to the whole input

@@ -1,7 +1,7 @@
 -- A session byte by byte: the session after a byte, and the text that the byte gives rise to. A whole input so is document 01's answer to it (proofs/Cutting.antt).
 -- Assumes nothing.
 use Prim.Native.Nat.{ℕ, suc, _+_, _-_, _%_}
-use mathlib.Core.Bool.{cond}
+use mathlib.Core.Bool.{Bool, cond}
 use mathlib.Core.List.{List, [], _∷_, _++_}
 use lib.Dec.{eqb, ltb}
 use lib.ListN.{length}
@@ -41,12 +41,16 @@ ended s = nextLine s (heldReply s)
 
 -- == bytes ==
 
--- after the last line that is taken nothing is looked at
+-- at most 65,535 lines are taken
+abbrev pub goesOn : Session → Bool
+goesOn s = ltb (s .lines) 65535
+
+-- after the last of them nothing is looked at
 unfoldable pub after : Session → ℕ → Session
-after s b = cond (ltb (s .lines) 65535) (cond (eqb b 10) (ended s) (pushed s b)) s
+after s b = cond (goesOn s) (cond (eqb b 10) (ended s) (pushed s b)) s
 
 unfoldable pub said : Session → ℕ → List ℕ
-said s b = cond (ltb (s .lines) 65535) (cond (eqb b 10) (saidText (s .lines + 1) (heldReply s .said)) []) []
+said s b = cond (goesOn s) (cond (eqb b 10) (saidText (s .lines + 1) (heldReply s .said)) []) []
 
 abbrev pub afterAll : Session → List ℕ → Session
 afterAll s [] = s

@@ -3,10 +3,9 @@
 use Prim.Native.Nat.{ℕ}
 use mathlib.Core.Bool.{Bool, true, false, not, _||_}
 use mathlib.Core.List.{List, [], _∷_, _++_}
-use lib.Dec.{ltb}
 use lib.ListN.{take, drop}
 use Rattle.session.specs.declared.Session.{Session}
-use Rattle.session.specs.Bytes.{fresh, afterAll, saidAll, taken}
+use Rattle.session.specs.Bytes.{fresh, goesOn, afterAll, saidAll, taken}
 
 -- between two calls: the session, the input that is not taken yet, and what is written so far
 pub record Host : Type 0 where
@@ -44,4 +43,4 @@ none [] = true
 none (b ∷ bs) = false
 
 abbrev pub over : Host → Bool
-over h = none (h .left) || not (ltb (h .session .lines) 65535)
+over h = none (h .left) || not (goesOn (h .session))
