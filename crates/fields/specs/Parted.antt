@@ -1,6 +1,7 @@
 -- A line's fields: document 01, "The session text". They are parted by one tab; a number is decimal.
 -- Assumes nothing.
 use Prim.Native.Nat.{ℕ, zero, suc, _+_, _-_, _*_, _/_, _%_, min}
+use Prim.Native.Char.{code}
 use mathlib.Core.Bool.{Bool, true, cond, _&&_}
 use mathlib.Core.List.{List, [], _∷_, _++_, map}
 use lib.Dec.{eqb, ltb, leb}
@@ -26,7 +27,7 @@ abbrev pub none : ℕ
 none = 4294967295
 
 abbrev pub isDigit : ℕ → Bool
-isDigit b = leb 48 b && leb b 57
+isDigit b = leb (code "0") b && leb b (code "9")
 
 abbrev pub areDigits : List ℕ → Bool
 areDigits [] = true
@@ -35,7 +36,7 @@ areDigits (b ∷ bs) = isDigit b && areDigits bs
 -- the value of digits behind a number v
 abbrev pub valueFrom : ℕ → List ℕ → ℕ
 valueFrom v [] = v
-valueFrom v (b ∷ bs) = valueFrom (v * 10 + (b - 48)) bs
+valueFrom v (b ∷ bs) = valueFrom (v * 10 + (b - code "0")) bs
 
 -- 1 to 9 digits
 abbrev pub numberOf : List ℕ → ℕ
@@ -44,7 +45,7 @@ numberOf l = cond (areDigits l && ltb 0 (length l) && ltb (length l) 10) (valueF
 -- n written with k digits, leading zeros among them: what a field of k digits is (proofs/Numerals.antt)
 abbrev pub numeral : ℕ → ℕ → List ℕ
 numeral zero n = []
-numeral (suc k) n = numeral k (n / 10) ++ (48 + n % 10) ∷ []
+numeral (suc k) n = numeral k (n / 10) ++ (code "0" + n % 10) ∷ []
 
 -- the byte of a field of one byte, else 0
 abbrev pub letterOf : List ℕ → ℕ
@@ -57,4 +58,4 @@ fieldOf l = record { number = numberOf l; letter = letterOf l; size = min (lengt
 
 -- a line's fields
 unfoldable pub fieldsOf : List ℕ → List Field
-fieldsOf line = map fieldOf (parts 9 line)
+fieldsOf line = map fieldOf (parts (code "\t") line)

@@ -1,6 +1,7 @@
 -- A line's fields byte by byte, as they are held.
 -- Assumes nothing.
 use Prim.Native.Nat.{ℕ, _+_, _-_, _*_}
+use Prim.Native.Char.{code}
 use mathlib.Core.Bool.{cond, _&&_}
 use mathlib.Core.List.{List, [], _∷_, _++_}
 use lib.Dec.{eqb, ltb}
@@ -18,7 +19,7 @@ abbrev pub blank : Field
 blank = record { number = none; letter = 0; size = 0 }
 
 abbrev pub digit : ℕ → ℕ
-digit b = b - 48
+digit b = b - code "0"
 
 -- an empty field has no digit yet
 abbrev pub soFar : Field → ℕ
@@ -76,7 +77,7 @@ parted f = withLast (placed f) (counted (f .count) 5) blank
 
 -- the line's next byte
 unfoldable pub push : Fields → ℕ → Fields
-push f b = cond (eqb b 9) (parted f) (withLast f (f .count) (extended (f .last) b))
+push f b = cond (eqb b (code "\t")) (parted f) (withLast f (f .count) (extended (f .last) b))
 
 -- a line, byte by byte
 abbrev pub pushes : Fields → List ℕ → Fields

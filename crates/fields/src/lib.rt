@@ -45,7 +45,7 @@ fn counted(n: u8, most: u8) -> u8
 fn is_digit(b: u8) -> bool
     ensures { λ r. ⌜ r ≡ Parted.isDigit b ⌝ }
 {
-    (48 <= b) & (b <= 57)
+    (b'0' <= b) & (b <= b'9')
 }
 
 // The number before a field's next byte: an empty field has no digit yet.
@@ -58,7 +58,7 @@ fn so_far(f: Field) -> u32
 fn digit(b: u8) -> u32
     ensures { λ r. ⌜ r ≡ Reading.digit b ⌝ }
 {
-    if b < 48 { 0 } else { (b - 48) as u32 }
+    if b < b'0' { 0 } else { (b - b'0') as u32 }
 }
 
 // The number with the digit b behind its digits so far.
@@ -147,7 +147,7 @@ fn parted(f: Fields) -> Fields
 pub fn push(f: Fields, b: u8) -> Fields
     ensures { λ r. ⌜ r ≡ Reading.push f b ⌝ }
 {
-    if b == 9 {
+    if b == b'\t' {
         return parted(f);
     }
     let mut next = f;

@@ -1,6 +1,7 @@
 -- A record as a line: what a line of a known shape is (proofs/Parser.antt). Document 01, "The session text".
 -- Assumes nothing.
 use Prim.Native.Nat.{ℕ, _^_, _≤_, _<_}
+use Prim.Native.Char.{code}
 use mathlib.Core.Path.{_≡_}
 use mathlib.Core.Bool.{Bool, true, false, _&&_}
 use mathlib.Core.List.{List, [], _∷_, map}
@@ -18,11 +19,11 @@ pub data Column : Type 0 where
 
 -- document 01's letter, unit and values for each case; a line of no known shape has none
 abbrev pub columns : Record → List Column
-columns (Write unit address v) = Letter 87 ∷ Letter unit ∷ Number address ∷ Number v ∷ []
-columns (Read unit address) = Letter 82 ∷ Letter unit ∷ Number address ∷ []
-columns (Pins unit dsr dcd cts) = Letter 80 ∷ Letter unit ∷ Number dsr ∷ Number dcd ∷ Number cts ∷ []
-columns (Reset unit) = Letter 90 ∷ Letter unit ∷ []
-columns (Ticks count) = Letter 76 ∷ Number count ∷ []
+columns (Write unit address v) = Letter (code "W") ∷ Letter unit ∷ Number address ∷ Number v ∷ []
+columns (Read unit address) = Letter (code "R") ∷ Letter unit ∷ Number address ∷ []
+columns (Pins unit dsr dcd cts) = Letter (code "P") ∷ Letter unit ∷ Number dsr ∷ Number dcd ∷ Number cts ∷ []
+columns (Reset unit) = Letter (code "Z") ∷ Letter unit ∷ []
+columns (Ticks count) = Letter (code "L") ∷ Number count ∷ []
 columns Shapeless = []
 
 -- a count is up to 65535, all else up to 255

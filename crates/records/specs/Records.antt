@@ -1,6 +1,7 @@
 -- The records of a session: document 01, "The session text". A line's fields make a record or have no known shape.
 -- Assumes nothing.
 use Prim.Native.Nat.{ℕ, _%_}
+use Prim.Native.Char.{code}
 use mathlib.Core.Bool.{Bool, cond, _&&_, _||_}
 use mathlib.Core.List.{List, [], _∷_}
 use lib.Dec.{eqb, leb}
@@ -11,7 +12,7 @@ use Rattle.records.specs.declared.Record.the-variants.{Write, Read, Pins
 
 -- Unit is A or B
 abbrev pub aUnit : ℕ → Bool
-aUnit unit = eqb unit 65 || eqb unit 66
+aUnit unit = eqb unit (code "A") || eqb unit (code "B")
 
 abbrev pub isUnit : Field → Bool
 isUnit f = aUnit (f .letter)
@@ -29,20 +30,20 @@ countOf f = f .number % 65536
 
 -- Z unit; L count
 unfoldable pub two : Field → Field → Record
-two k u = cond (eqb (k .letter) 90 && isUnit u) (Reset (u .letter)) (cond (eqb (k .letter) 76 && upTo 65535 u) (Ticks (countOf u)) Shapeless)
+two k u = cond (eqb (k .letter) (code "Z") && isUnit u) (Reset (u .letter)) (cond (eqb (k .letter) (code "L") && upTo 65535 u) (Ticks (countOf u)) Shapeless)
 
 -- R unit addr
 unfoldable pub three : Field → Field → Field → Record
-three k u a = cond (eqb (k .letter) 82 && isUnit u && upTo 255 a) (Read (u .letter) (byteOf a)) Shapeless
+three k u a = cond (eqb (k .letter) (code "R") && isUnit u && upTo 255 a) (Read (u .letter) (byteOf a)) Shapeless
 
 -- W unit addr value
 unfoldable pub four : Field → Field → Field → Field → Record
-four k u a v = cond (eqb (k .letter) 87 && isUnit u && upTo 255 a && upTo 255 v) (Write (u .letter) (byteOf a) (byteOf v)) Shapeless
+four k u a v = cond (eqb (k .letter) (code "W") && isUnit u && upTo 255 a && upTo 255 v) (Write (u .letter) (byteOf a) (byteOf v)) Shapeless
 
 -- P unit dsr dcd cts
 unfoldable pub five : Field → Field → Field → Field → Field → Record
 five k u dsr dcd cts =
-    cond (eqb (k .letter) 80 && isUnit u && upTo 255 dsr && upTo 255 dcd && upTo 255 cts)
+    cond (eqb (k .letter) (code "P") && isUnit u && upTo 255 dsr && upTo 255 dcd && upTo 255 cts)
     (Pins (u .letter) (byteOf dsr) (byteOf dcd) (byteOf cts)) Shapeless
 
 abbrev pub recordOf : List Field → Record

@@ -4,7 +4,7 @@ ghost use Rattle.records.specs.Records;
 use fields::Field;
 use fields::Fields;
 
-// A line's record. A unit is its letter, 65 or 66.
+// A line's record. A unit is its letter, A or B.
 pub enum Record {
     Write(u8, u8, u8),
     Read(u8, u8),
@@ -17,7 +17,7 @@ pub enum Record {
 fn is_unit(f: Field) -> bool
     ensures { λ r. ⌜ r ≡ Records.isUnit f ⌝ }
 {
-    (f.letter == 65) | (f.letter == 66)
+    (f.letter == b'A') | (f.letter == b'B')
 }
 
 // 1 to 5 digits, not above the limit.
@@ -44,11 +44,11 @@ fn count_of(f: Field) -> u16
 fn two(k: Field, u: Field) -> Record
     ensures { λ r. ⌜ r ≡ Records.two k u ⌝ }
 {
-    let z = (k.letter == 90) & is_unit(u);
+    let z = (k.letter == b'Z') & is_unit(u);
     if z {
         return Record::Reset(u.letter);
     }
-    let l = (k.letter == 76) & up_to(65535, u);
+    let l = (k.letter == b'L') & up_to(65535, u);
     if l {
         return Record::Ticks(count_of(u));
     }
@@ -59,7 +59,7 @@ fn two(k: Field, u: Field) -> Record
 fn three(k: Field, u: Field, a: Field) -> Record
     ensures { λ r. ⌜ r ≡ Records.three k u a ⌝ }
 {
-    let known = (k.letter == 82) & is_unit(u) & up_to(255, a);
+    let known = (k.letter == b'R') & is_unit(u) & up_to(255, a);
     if known {
         return Record::Read(u.letter, byte_of(a));
     }
@@ -70,7 +70,7 @@ fn three(k: Field, u: Field, a: Field) -> Record
 fn four(k: Field, u: Field, a: Field, v: Field) -> Record
     ensures { λ r. ⌜ r ≡ Records.four k u a v ⌝ }
 {
-    let known = (k.letter == 87) & is_unit(u) & up_to(255, a) & up_to(255, v);
+    let known = (k.letter == b'W') & is_unit(u) & up_to(255, a) & up_to(255, v);
     if known {
         return Record::Write(u.letter, byte_of(a), byte_of(v));
     }
@@ -81,7 +81,11 @@ fn four(k: Field, u: Field, a: Field, v: Field) -> Record
 fn five(k: Field, u: Field, dsr: Field, dcd: Field, cts: Field) -> Record
     ensures { λ r. ⌜ r ≡ Records.five k u dsr dcd cts ⌝ }
 {
-    let known = (k.letter == 80) & is_unit(u) & up_to(255, dsr) & up_to(255, dcd) & up_to(255, cts);
+    let known = (k.letter == b'P')
+        & is_unit(u)
+        & up_to(255, dsr)
+        & up_to(255, dcd)
+        & up_to(255, cts);
     if known {
         return Record::Pins(u.letter, byte_of(dsr), byte_of(dcd), byte_of(cts));
     }

@@ -1,6 +1,7 @@
 -- The text of the output: document 01, "The session text". Fields are parted by one tab, and numbers are decimal without leading zeros.
 -- Assumes nothing.
 use Prim.Native.Nat.{ℕ, zero, suc, _+_, _/_, _%_, _≤_}
+use Prim.Native.Char.{code}
 use mathlib.Core.Path.{_≡_}
 use mathlib.Core.Bool.{cond}
 use mathlib.Core.List.{List, [], _∷_, _++_}
@@ -14,7 +15,7 @@ use Rattle.rows.specs.declared.Row.the-variants.{Nothing, Value, Refusal
 
 -- the last digit
 abbrev pub glyph : ℕ → ℕ
-glyph n = 48 + n % 10
+glyph n = code "0" + n % 10
 
 -- a number below 10 is its digit; any other is the text of its tenth, then its last digit. k more digits hold it
 abbrev pub digits : ℕ → ℕ → List ℕ
@@ -31,11 +32,11 @@ decimal n = digits 9 n
 abbrev pub tabbed : List (List ℕ) → List ℕ → List ℕ
 tabbed [] end = end
 tabbed (f ∷ []) end = f ++ end
-tabbed (f ∷ g ∷ gs) end = f ++ 9 ∷ tabbed (g ∷ gs) end
+tabbed (f ∷ g ∷ gs) end = f ++ code "\t" ∷ tabbed (g ∷ gs) end
 
 -- a line of the output
 abbrev pub row : List (List ℕ) → List ℕ
-row fields = tabbed fields (10 ∷ [])
+row fields = tabbed fields (code "\n" ∷ [])
 
 -- a field of one letter
 abbrev pub letter : ℕ → List ℕ
@@ -43,19 +44,19 @@ letter b = b ∷ []
 
 -- the two numbers that end a line, each behind its tab
 abbrev pub numbers : ℕ → ℕ → List ℕ
-numbers m n = 9 ∷ (decimal m ++ 9 ∷ (decimal n ++ 10 ∷ []))
+numbers m n = code "\t" ∷ (decimal m ++ code "\t" ∷ (decimal n ++ code "\n" ∷ []))
 
 -- E, line number, refusal
 unfoldable pub refusalText : ℕ → ℕ → List ℕ
-refusalText line n = row (letter 69 ∷ decimal line ∷ decimal n ∷ [])
+refusalText line n = row (letter (code "E") ∷ decimal line ∷ decimal n ∷ [])
 
 -- R, unit, address, value
 unfoldable pub valueText : ℕ → ℕ → ℕ → List ℕ
-valueText unit address v = row (letter 82 ∷ letter unit ∷ decimal address ∷ decimal v ∷ [])
+valueText unit address v = row (letter (code "R") ∷ letter unit ∷ decimal address ∷ decimal v ∷ [])
 
 -- N, lines taken, refusals
 unfoldable pub countsText : ℕ → ℕ → List ℕ
-countsText lines refusals = row (letter 78 ∷ decimal lines ∷ decimal refusals ∷ [])
+countsText lines refusals = row (letter (code "N") ∷ decimal lines ∷ decimal refusals ∷ [])
 
 -- document 01's letter and values for each case
 unfoldable pub rowText : Row → List ℕ

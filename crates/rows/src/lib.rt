@@ -28,7 +28,7 @@ fn put(out: &mut [u8], at: usize, b: u8) -> usize
 fn glyph(n: u32) -> u8
     ensures { λ r. ⌜ r ≡ Text.glyph n ⌝ }
 {
-    48 + (n % 10) as u8
+    b'0' + (n % 10) as u8
 }
 
 fn decimal(out: &mut [u8], at: usize, n: u32) -> usize
@@ -47,7 +47,7 @@ fn field(out: &mut [u8], at: usize, n: u32) -> usize
     requires { ⌜ at + 11 ≤ length (now out) ⌝ }
     ensures { λ r. ⌜ Put (now (out .entry)) at (9 ∷ Text.decimal n) (now (out .exit)) r ⌝ }
 {
-    let e = put(out, at, 9);
+    let e = put(out, at, b'\t');
     decimal(out, e, n)
 }
 
@@ -58,7 +58,7 @@ fn numbers(out: &mut [u8], at: usize, m: u32, n: u32) -> usize
 {
     let e = field(out, at, m);
     let f = field(out, e, n);
-    put(out, f, 10)
+    put(out, f, b'\n')
 }
 
 fn wide(n: u16) -> u32
@@ -79,7 +79,7 @@ fn say_refusal(out: &mut [u8], at: usize, line: u16, n: u8) -> usize
 {
     let l = wide(line);
     let m = wide_byte(n);
-    let e = put(out, at, 69);
+    let e = put(out, at, b'E');
     numbers(out, e, l, m)
 }
 
@@ -89,8 +89,8 @@ fn say_value(out: &mut [u8], at: usize, unit: u8, address: u8, v: u8) -> usize
 {
     let m = wide_byte(address);
     let n = wide_byte(v);
-    let e = put(out, at, 82);
-    let f = put(out, e, 9);
+    let e = put(out, at, b'R');
+    let f = put(out, e, b'\t');
     let g = put(out, f, unit);
     numbers(out, g, m, n)
 }
@@ -101,7 +101,7 @@ fn say_counts(out: &mut [u8], at: usize, lines: u16, refusals: u16) -> usize
 {
     let m = wide(lines);
     let n = wide(refusals);
-    let e = put(out, at, 78);
+    let e = put(out, at, b'N');
     numbers(out, e, m, n)
 }
 

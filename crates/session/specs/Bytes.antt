@@ -1,6 +1,7 @@
 -- A session byte by byte: the session after a byte, and the text that the byte gives rise to. A whole input so is document 01's answer to it (proofs/Cutting.antt).
 -- Assumes nothing.
 use Prim.Native.Nat.{ℕ, suc, _+_, _-_, _%_}
+use Prim.Native.Char.{code}
 use mathlib.Core.Bool.{Bool, cond}
 use mathlib.Core.List.{List, [], _∷_, _++_}
 use lib.Dec.{eqb, ltb}
@@ -47,10 +48,10 @@ goesOn s = ltb (s .lines) 65535
 
 -- after the last of them nothing is looked at
 unfoldable pub after : Session → ℕ → Session
-after s b = cond (goesOn s) (cond (eqb b 10) (ended s) (pushed s b)) s
+after s b = cond (goesOn s) (cond (eqb b (code "\n")) (ended s) (pushed s b)) s
 
 unfoldable pub said : Session → ℕ → List ℕ
-said s b = cond (goesOn s) (cond (eqb b 10) (saidText (s .lines + 1) (heldReply s .said)) []) []
+said s b = cond (goesOn s) (cond (eqb b (code "\n")) (saidText (s .lines + 1) (heldReply s .said)) []) []
 
 abbrev pub afterAll : Session → List ℕ → Session
 afterAll s [] = s
@@ -68,4 +69,4 @@ taken s (b ∷ bs) room = cond (ltb room 32) 0 (suc (taken (after s b) bs (room 
 -- at the end of the input: the last line, where it lacks its newline, and the counts
 unfoldable pub lastSaid : Session → List ℕ
 lastSaid s =
-    cond (ltb 0 (s .length)) (said s 10 ++ countsText (after s 10 .lines) (after s 10 .refusals)) (countsText (s .lines) (s .refusals))
+    cond (ltb 0 (s .length)) (said s (code "\n") ++ countsText (after s (code "\n") .lines) (after s (code "\n") .refusals)) (countsText (s .lines) (s .refusals))

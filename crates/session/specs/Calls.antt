@@ -1,6 +1,7 @@
 -- What a record does to the two joined devices, and what is said of it: document 01, "The session text" and "Refusal numbers".
 -- Assumes nothing.
 use Prim.Native.Nat.{ℕ}
+use Prim.Native.Char.{code}
 use mathlib.Core.Bool.{cond}
 use mathlib.Core.List.{List}
 use lib.Dec.{eqb, ltb}
@@ -32,10 +33,10 @@ freshPair = record { a = resetDevice; b = resetDevice }
 
 -- A, or else B
 abbrev pub deviceOf : Pair → ℕ → Device
-deviceOf p unit = cond (eqb unit 65) (p .a) (p .b)
+deviceOf p unit = cond (eqb unit (code "A")) (p .a) (p .b)
 
 abbrev pub putBack : Pair → ℕ → Device → Pair
-putBack p unit d = cond (eqb unit 65) (record { a = d; b = p .b }) (record { a = p .a; b = d })
+putBack p unit d = cond (eqb unit (code "A")) (record { a = d; b = p .b }) (record { a = p .a; b = d })
 
 -- == replies ==
 

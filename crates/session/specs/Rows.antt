@@ -1,6 +1,7 @@
 -- The refusal table of document 01 at the session: which number a line is given.
 -- Assumes nothing.
 use Prim.Native.Nat.{ℕ, suc}
+use Prim.Native.Char.{code}
 use mathlib.Core.Bool.{Bool, true, false, cond}
 use mathlib.Core.List.{List, [], _∷_}
 use lib.Dec.{eqb, ltb}
@@ -52,9 +53,9 @@ given (n ∷ ns) = cond (ltb 0 n) (suc (given ns)) (given ns)
 -- how many newlines a text has
 abbrev pub newlines : List ℕ → ℕ
 newlines [] = 0
-newlines (b ∷ bs) = cond (eqb b 10) (suc (newlines bs)) (newlines bs)
+newlines (b ∷ bs) = cond (eqb b (code "\n")) (suc (newlines bs)) (newlines bs)
 
 -- whether the last line lacks its newline, as 0 or 1; `before` says it of what came before
 abbrev pub lacking : ℕ → List ℕ → ℕ
 lacking before [] = before
-lacking before (b ∷ bs) = lacking (cond (eqb b 10) 0 1) bs
+lacking before (b ∷ bs) = lacking (cond (eqb b (code "\n")) 0 1) bs

@@ -1,6 +1,7 @@
 -- A session's lines as steps of the bench of two joined devices (`joined`, specs/Bench.antt): so demand 3 reads on a session's text too.
 -- Assumes nothing.
 use Prim.Native.Nat.{ℕ}
+use Prim.Native.Char.{code}
 use mathlib.Core.Bool.{cond}
 use mathlib.Core.List.{List, [], _∷_, _++_}
 use lib.Dec.{eqb}
@@ -16,7 +17,7 @@ use Rattle.session.specs.Calls.{lineReply}
 use Rattle.session.specs.Rows.{overlong}
 
 abbrev pub side : ℕ → Side
-side unit = cond (eqb unit 65) A B
+side unit = cond (eqb unit (code "A")) A B
 
 abbrev pub recordSteps : Record → List Step
 recordSteps (Write unit address v) = At (side unit) (chip.Write address v) ∷ []

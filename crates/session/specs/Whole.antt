@@ -1,6 +1,7 @@
 -- The whole output as a function of the whole input: document 01, "The session text".
 -- Assumes nothing.
 use Prim.Native.Nat.{ℕ, suc}
+use Prim.Native.Char.{code}
 use mathlib.Core.Bool.{cond}
 use mathlib.Core.List.{List, [], _∷_, _++_}
 use lib.Dec.{ltb}
@@ -25,7 +26,7 @@ filled (p ∷ q ∷ qs) = p ∷ filled (q ∷ qs)
 
 -- each line ends at a newline, and the last may lack its own
 unfoldable pub linesOf : List ℕ → List (List ℕ)
-linesOf input = filled (parts 10 input)
+linesOf input = filled (parts (code "\n") input)
 
 -- at most 65,535 lines are taken, and the rest stays unread
 unfoldable pub linesTaken : List ℕ → List (List ℕ)

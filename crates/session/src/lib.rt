@@ -58,7 +58,7 @@ pub struct Fed {
 fn device_of(p: Pair, unit: u8) -> Device
     ensures { λ r. ⌜ r ≡ Calls.deviceOf p unit ⌝ }
 {
-    if unit == 65 {
+    if unit == b'A' {
         return p.a;
     }
     p.b
@@ -68,7 +68,7 @@ fn put_back(p: Pair, unit: u8, d: Device) -> Pair
     ensures { λ r. ⌜ r ≡ Calls.putBack p unit d ⌝ }
 {
     let mut next = p;
-    if unit == 65 {
+    if unit == b'A' {
         next.a = d;
         return next;
     }
@@ -265,7 +265,7 @@ fn byte(s: Session, b: u8, out: &mut [u8], at: usize) -> Turn
     ensures { λ r. ⌜ (r .session ≡ Bytes.after s b) × Put (now (out .entry)) at (Bytes.said s b) (now (out .exit)) (r .at) ⌝ }
 {
     if s.lines < 65535 {
-        if b == 10 {
+        if b == b'\n' {
             return ended(s, out, at);
         }
         return Turn {
@@ -311,7 +311,7 @@ fn finish_in(s: Session, out: &mut [u8]) -> usize
     ensures { λ r. ⌜ Spoke (now (out .entry)) (Bytes.lastSaid s) (now (out .exit)) r ⌝ }
 {
     if 0 < s.length {
-        let t = byte(s, 10, out, 0);
+        let t = byte(s, b'\n', out, 0);
         let q = t.session;
         let at = t.at;
         return rows::write(out, at, Row::Counts(q.lines, q.refusals));
