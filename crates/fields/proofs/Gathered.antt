@@ -47,10 +47,11 @@ only-is [] b = refl
 only-is (x ∷ []) b = refl
 only-is (x ∷ y ∷ ys) b = rw (ne-eqb (min (suc (suc (length ys))) 10) 0 (λ e. omega arith))
 
-counted-is : (n : ℕ) → counted (min n 10) 10 ≡ min (n + 1) 10
-counted-is n = go (ltb (min n 10) 10) refl
+-- a number counted up to most
+pub counted-is : (n most : ℕ) → counted (min n most) most ≡ min (n + 1) most
+counted-is n most = go (ltb (min n most) most) refl
   where
-    go : (t : Bool) → ltb (min n 10) 10 ≡ t → counted (min n 10) 10 ≡ min (n + 1) 10
+    go : (t : Bool) → ltb (min n most) most ≡ t → counted (min n most) most ≡ min (n + 1) most
     go true e = rw e (omega (arith, ltb-true))
     go false e = rw e (omega (arith, ltb-false))
 

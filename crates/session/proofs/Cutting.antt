@@ -9,11 +9,12 @@ use native.Mathlib.Nat.{add-zero}
 use native.Mathlib.Numerals.{add-one}
 use borrow.Author.Tests.{lt-ltb, le-ltb, ltb-true, ltb-false}
 use lib.Dec.{ltb, eqb}
-use lib.ListN.{length, take, length-append}
+use lib.ListN.{length, take, length-append, length-take}
 use lib.Seq.{take-nil, take-all}
+use Rattle.fields.specs.declared.Fields.{Fields}
 use Rattle.fields.specs.Parted.{parts}
 use Rattle.fields.specs.Reading.{empty, push, pushes}
-use Rattle.fields.proofs.Gathered.{onto, onto-first, onto-none, fields-held}
+use Rattle.fields.proofs.Gathered.{counted-is, onto, onto-first, onto-none, fields-held}
 use Rattle.line.proofs.Choice.{either}
 use Rattle.joined.specs.declared.Pair.{Pair}
 use Rattle.session.specs.declared.Said.{Said}
@@ -71,6 +72,11 @@ count-from (b ∷ bs) h = go (eqb b 10) refl (count-from bs)
 pub lines-counted : (input : List ℕ) → length (linesOf input) ≡ newlines input + lacking 0 input
 lines-counted input = ap length (sym (input-lines input)) ∙ count-from input []
 
+-- the first number of N
+pub lines-taken : (input : List ℕ) → length (linesTaken input) ≡ min 65535 (newlines input + lacking 0 input)
+unfolding linesTaken
+lines-taken input = length-take 65535 (linesOf input) ∙ ap (λ (n : ℕ). min 65535 n) (lines-counted input)
+
 -- == what is written from a line on ==
 
 -- after n lines, f of them refused
@@ -116,7 +122,7 @@ held-is {s} {h} p = go (ltb 64 (length h)) refl
     go true e = rw (e, lt-ltb 64 (s .length) (omega (arith, ltb-true, p .size)))
     go false e = rw (e, le-ltb 64 (s .length) (omega (arith, ltb-false, p .size)), p .held, fields-held h, held-record)
 
-pushes-more : (f : _) (h : List ℕ) (b : ℕ) → pushes f (h ++ b ∷ []) ≡ push (pushes f h) b
+pushes-more : (f : Fields) (h : List ℕ) (b : ℕ) → pushes f (h ++ b ∷ []) ≡ push (pushes f h) b
 pushes-more f [] b = refl
 pushes-more f (x ∷ h) b = pushes-more (push f x) h b
 
@@ -126,24 +132,17 @@ holds-push {s} {h} b p =
     record {
       count = p .count;
       few = p .few;
-      size = go (ltb (s .length) 65) refl;
+      size = ap longer (p .size) ∙ counted-is (length h) 65 ∙ ap (λ (n : ℕ). min n 65) (sym (length-append h (b ∷ [])));
       held = ap (λ f. push f b) (p .held) ∙ sym (pushes-more empty h b);
     }
-  where
-    more : length (h ++ b ∷ []) ≡ length h + 1
-    more = length-append h (b ∷ [])
-
-    go : (t : Bool) → ltb (s .length) 65 ≡ t → longer (s .length) ≡ min (length (h ++ b ∷ [])) 65
-    go true e = rw e (omega (arith, more, ltb-true, p .size))
-    go false e = rw e (omega (arith, more, ltb-false, p .size))
 
 -- a byte of a line changes nothing else
 pushed-keeps : (s : Session) (b : ℕ) (P : Pair → ℕ → ℕ → List ℕ) → P (pushed s b .pair) (pushed s b .lines) (pushed s b .refusals) ≡ P (s .pair) (s .lines) (s .refusals)
 unfolding pushed
 pushed-keeps s b P = refl
 
-counted-is : (n : ℕ) (s : Said) → n < 65535 → counted n (number s) ≡ n + fault s
-counted-is n s h = go (ltb 0 (number s)) refl
+refusals-more : (n : ℕ) (s : Said) → n < 65535 → counted n (number s) ≡ n + fault s
+refusals-more n s h = go (ltb 0 (number s)) refl
   where
     go : (t : Bool) → ltb 0 (number s) ≡ t → counted n (number s) ≡ n + fault s
     go true e = rw e (omega arith)
@@ -156,7 +155,7 @@ fault-few s = either (λ (k : ℕ). k ≤ 1) (ltb 0 (number s)) (omega arith) (o
 
 module _ {s : Session} {h : List ℕ} (p : Holds s h) (more : s .lines < 65535) where
   refused-is : counted (s .refusals) (number (heldReply s .said)) ≡ s .refusals + fault (heldReply s .said)
-  refused-is = counted-is (s .refusals) (heldReply s .said) (omega (arith, p .few))
+  refused-is = refusals-more (s .refusals) (heldReply s .said) (omega (arith, p .few))
 
   holds-end : Holds (ended s) []
   unfolding ended

@@ -1,4 +1,4 @@
--- A session byte by byte: the session after a byte, and the text that the byte gives rise to. A whole input so is document 01's answer to it (proofs/Cutting.antt).
+-- A session byte by byte: the session after a byte, and the text that the byte gives rise to. What is written of a whole input so is document 01's answer to it (proofs/Cutting.antt).
 -- Assumes nothing.
 use Prim.Native.Nat.{ℕ, suc, _+_, _-_, _%_}
 use Prim.Native.Char.{code}
@@ -6,6 +6,7 @@ use mathlib.Core.Bool.{Bool, cond}
 use mathlib.Core.List.{List, [], _∷_, _++_}
 use lib.Dec.{eqb, ltb}
 use lib.ListN.{length}
+use Rattle.fields.specs.Reading as reading
 use Rattle.fields.specs.Reading.{empty, push}
 use Rattle.session.specs.declared.Reply.{Reply}
 use Rattle.session.specs.declared.Session.{Session}
@@ -20,7 +21,7 @@ fresh = record { pair = freshPair; lines = 0; refusals = 0; length = 0; fields =
 
 -- 65 says over 64
 abbrev pub longer : ℕ → ℕ
-longer n = cond (ltb n 65) (n + 1) 65
+longer n = reading.counted n 65
 
 unfoldable pub pushed : Session → ℕ → Session
 pushed s b = record { pair = s .pair; lines = s .lines; refusals = s .refusals; length = longer (s .length); fields = push (s .fields) b }

@@ -35,11 +35,11 @@ pub +decimal-spec : {M : Type 1} → statement M
     (λ c κs. search needs)
     (λ c κs. search needs)
     (λ c. search needs)
-    (λ c. rw (decimal-one _ (c .before .before .before .before .if1 .taken), ← c .before .before .before .before .before .glyph .ensures) (c .before .before .put .ensures))
+    (λ c. rw (decimal-one (c .before .before .before .before .before .before .before .args .n) (omega (arith, c .before .before .before .before .if1 .taken)), ← c .before .before .before .before .before .glyph .ensures) (c .before .before .put .ensures))
     (λ c κs. (rw (← c .before .before .before .before .pre .0) (omega arith), c .before .before .before .before .pre .1))
     (λ c κs.
-    let h = room 1 9 (c .before .before .before .decimal .ensures) (tenth-short _ (omega arith) (c .before .before .before .before .before .if1 .left)) (c .before .before .before .before .before .before .before .before .pre .1) in
+    let h = room 1 9 (c .before .before .before .decimal .ensures) (tenth-short (c .before .before .before .before .before .before .before .before .args .n) (omega arith) (omega (arith, c .before .before .before .before .before .if1 .left))) (c .before .before .before .before .before .before .before .before .pre .1) in
     omega arith)
     (λ c. search needs)
-    (λ c. rw (decimal-more _ (omega arith) (c .before .before .before .before .before .before .before .before .if1 .left), ← c .before .before .before .before .before .before .before .before .before .glyph .ensures)
+    (λ c. rw (decimal-more (c .before .before .before .before .before .before .before .before .before .before .before .args .n) (omega arith) (omega (arith, c .before .before .before .before .before .before .before .before .if1 .left)), ← c .before .before .before .before .before .before .before .before .before .glyph .ensures)
     (behind (c .before .before .before .before .before .before .decimal .ensures) (c .before .before .put2 .ensures))))

@@ -18,7 +18,7 @@ returns c =
     let last = c .before .before .before .before .before .before .before .byte .ensures .1 in
     let counts = written (room 32 32 last (said-short _ _) (c .before .before .before .before .before .before .before .before .before .before .before .before .pre)) (c .before .before .write .ensures) in
     let short = said-short (c .before .before .before .before .before .before .before .before .before .before .before .before .args .s) 10 in
-    rw (lt-ltb _ _ (c .before .before .before .before .before .before .before .before .before .if1 .taken), ← c .before .before .before .before .before .before .before .byte .ensures .0)
+    rw (lt-ltb 0 _ (c .before .before .before .before .before .before .before .before .before .if1 .taken), ← c .before .before .before .before .before .before .before .byte .ensures .0)
     (spoke (behind last counts) (rw length-append (omega (arith, short, counts-short (q .lines) (q .refusals)))))
 
 returns-2 : tie.Need-returns-2
@@ -26,7 +26,7 @@ unfolding lastSaid rowText
 returns-2 c =
     let s = c .before .before .before .before .before .before .before .args .s in
     let counts = written (omega (arith, c .before .before .before .before .before .before .before .pre)) (c .before .before .write2 .ensures) in
-    rw (le-ltb _ _ (c .before .before .before .before .if1 .left)) (spoke counts (omega (arith, counts-short (s .lines) (s .refusals))))
+    rw (le-ltb 0 _ (c .before .before .before .before .if1 .left)) (spoke counts (omega (arith, counts-short (s .lines) (s .refusals))))
 
 pub finish-in-spec : {M : Type 1} → statement M
 finish-in-spec = tie.close (tie.spec (λ c κs. search needs) (λ c κs. search needs) (λ c. search needs) returns (λ c κs. search needs) (λ c. search needs) returns-2)

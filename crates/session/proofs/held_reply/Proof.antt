@@ -8,11 +8,11 @@ use Rattle.session.proofs.held_reply.Tie as tie
 
 returns : tie.Need-returns
 unfolding heldReply
-returns c = rw (c .refused .ensures, lt-ltb _ _ (c .before .if1 .taken))
+returns c = rw (c .refused .ensures, lt-ltb 64 _ (c .before .if1 .taken))
 
 returns-2 : tie.Need-returns-2
 unfolding heldReply
-returns-2 c = rw (c .obey .ensures, c .before .record-of .ensures, le-ltb _ _ (c .before .before .if1 .left))
+returns-2 c = rw (c .obey .ensures, c .before .record-of .ensures, le-ltb 64 _ (c .before .before .if1 .left))
 
 pub held-reply-spec : {M : Type 1} → statement M
 held-reply-spec = tie.close (tie.spec (λ c κs. search needs) returns (λ c κs. search needs) (λ c κs. search needs) returns-2)
