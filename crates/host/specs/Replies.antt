@@ -1,6 +1,6 @@
 -- What each call of a lent device answers and leaves behind the reference, by the by-value calls of `ins2651`.
 -- Assumes nothing.
-use Prim.Native.Nat.{ℕ, _+_, _*_}
+use Prim.Native.Nat.{ℕ, _+_, _*_, _/_, _%_}
 use Rattle.ins2651.specs.declared.Device.{Device}
 use Rattle.ins2651.specs.declared.Answer.{Answer}
 use Rattle.ins2651.specs.declared.Outcome.{Outcome}
@@ -45,3 +45,16 @@ receive d level = done (Ticks.receive d level)
 
 abbrev pub outputs : Device → Reply
 outputs d = record { answer = levels (Status.outputs d); device = d }
+
+-- == as C takes an answer apart ==
+
+-- INS2651_REFUSAL and INS2651_VALUE
+abbrev pub refusalOf : ℕ → ℕ
+refusalOf w = w / 256
+
+abbrev pub valueOf : ℕ → ℕ
+valueOf w = w % 256
+
+-- the bits INS2651_TXRDY, INS2651_RXRDY, INS2651_TXEMT, INS2651_DTR and INS2651_RTS
+abbrev pub levelsOf : ℕ → OutputPins
+levelsOf w = record { txrdy = w % 2; rxrdy = w / 2 % 2; txemt = w / 4 % 2; dtr = w / 8 % 2; rts = w / 16 % 2 }

@@ -1,0 +1,199 @@
+/* The proved INS2651 for C: crates/host says what each call does, for any bytes in the device lent to it.
+ * Link with target/staticlib/libhost.a, which `rt staticlib host` proves and writes (x86-64). docs/USING.md, "From C", has an example. */
+#ifndef INS2651_H
+#define INS2651_H
+
+#include <stddef.h>
+#include <stdint.h>
+
+#ifdef __cplusplus
+extern "C" {
+#endif
+
+/* Register addresses. */
+enum {
+    INS2651_DATA = 0,    /* read: the character received; write: a character to send */
+    INS2651_STATUS = 1,  /* read: status; write: SYN1, SYN2, DLE in turn */
+    INS2651_MODE = 2,    /* mode 1, then mode 2 */
+    INS2651_COMMAND = 3
+};
+
+/* Refusals: what a refused call answers. It leaves the device as it was. */
+enum {
+    INS2651_DONE = 0,
+    INS2651_NO_SUCH_ADDRESS = 1,      /* a register address above 3 */
+    INS2651_NO_SUCH_LEVEL = 2,        /* a pin or line level neither 0 nor 1 */
+    INS2651_NO_STOP_LENGTH = 3,       /* mode 1 with factor 1, 16 or 64 and no stop length */
+    INS2651_SYNCHRONOUS = 4,          /* mode 1 with factor bits 00 */
+    INS2651_NOT_NORMAL_OPERATION = 5  /* a command with bit 6 or 7 set */
+};
+
+/* The bits of what ins2651_outputs answers; 1 is a high level, and each output is active low. */
+enum {
+    INS2651_TXRDY = 1,
+    INS2651_RXRDY = 2,
+    INS2651_TXEMT = 4,
+    INS2651_DTR = 8,
+    INS2651_RTS = 16
+};
+
+/* What ins2651_read answered, taken apart. */
+#define INS2651_REFUSAL(answer) ((uint8_t)((answer) >> 8))
+#define INS2651_VALUE(answer) ((uint8_t)((answer) & 255))
+
+/* The registers; `accepted` is 1 once a mode 1 was accepted, `modes` and `syns` are the two pointers. */
+typedef struct {
+    uint8_t mode1;
+    uint8_t mode2;
+    uint8_t accepted;
+    uint8_t command;
+    uint8_t syn1;
+    uint8_t syn2;
+    uint8_t dle;
+    uint8_t modes;
+    uint8_t syns;
+} ins2651_registers;
+
+/* The levels of the three modem inputs. */
+typedef struct {
+    uint8_t dsr;
+    uint8_t dcd;
+    uint8_t cts;
+} ins2651_input_pins;
+
+/* How a character is sent: ticks a bit, data bits, parity or none, even or odd, stop ticks. All 0: no character is under way. */
+typedef struct {
+    uint8_t factor;
+    uint8_t length;
+    uint8_t parity;
+    uint8_t even;
+    uint8_t stop;
+} ins2651_format;
+
+/* The frame being sent; `place` is that of its next tick. */
+typedef struct {
+    uint8_t character;
+    ins2651_format format;
+    uint16_t place;
+} ins2651_frame;
+
+/* The sender: its frame, the character that waits (where `full` is 1), the guard that a break left. */
+typedef struct {
+    ins2651_frame frame;
+    uint8_t holding;
+    uint8_t full;
+    uint8_t guard;
+} ins2651_sender;
+
+/* Where the receiver stands between two samples. */
+typedef struct {
+    uint8_t phase;
+    uint8_t countdown;
+    uint8_t value;
+    uint8_t wrong;
+    uint16_t look;
+} ins2651_sampling;
+
+/* The receiver: where it stands, the format of the character under way, the character last held, unread or not. */
+typedef struct {
+    ins2651_sampling state;
+    ins2651_format format;
+    uint8_t holding;
+    uint8_t unread;
+} ins2651_receiver;
+
+/* The three error flags, the empty-mark and the change-mark. */
+typedef struct {
+    uint8_t framing;
+    uint8_t overrun;
+    uint8_t parity;
+    uint8_t empty;
+    uint8_t change;
+} ins2651_flags;
+
+/* A device: any bytes will do. One that is out of range (docs/RANGES.md) is taken as one just reset. */
+typedef struct {
+    ins2651_registers registers;
+    ins2651_input_pins pins;
+    ins2651_sender sender;
+    ins2651_receiver receiver;
+    ins2651_flags flags;
+} ins2651;
+
+/* The layout is the archive's. Bytes 23, 37 and 43 are padding, which no call reads. */
+#ifdef __cplusplus
+#define INS2651_HOLDS(fact) static_assert(fact, #fact)
+#else
+#define INS2651_HOLDS(fact) _Static_assert(fact, #fact)
+#endif
+#define INS2651_AT(field, offset, size) \
+    INS2651_HOLDS(offsetof(ins2651, field) == (offset) && sizeof(((ins2651 *)0)->field) == (size))
+INS2651_HOLDS(sizeof(ins2651) == 44);
+INS2651_AT(registers.mode1, 0, 1);
+INS2651_AT(registers.mode2, 1, 1);
+INS2651_AT(registers.accepted, 2, 1);
+INS2651_AT(registers.command, 3, 1);
+INS2651_AT(registers.syn1, 4, 1);
+INS2651_AT(registers.syn2, 5, 1);
+INS2651_AT(registers.dle, 6, 1);
+INS2651_AT(registers.modes, 7, 1);
+INS2651_AT(registers.syns, 8, 1);
+INS2651_AT(pins.dsr, 9, 1);
+INS2651_AT(pins.dcd, 10, 1);
+INS2651_AT(pins.cts, 11, 1);
+INS2651_AT(sender.frame.character, 12, 1);
+INS2651_AT(sender.frame.format.factor, 13, 1);
+INS2651_AT(sender.frame.format.length, 14, 1);
+INS2651_AT(sender.frame.format.parity, 15, 1);
+INS2651_AT(sender.frame.format.even, 16, 1);
+INS2651_AT(sender.frame.format.stop, 17, 1);
+INS2651_AT(sender.frame.place, 18, 2);
+INS2651_AT(sender.holding, 20, 1);
+INS2651_AT(sender.full, 21, 1);
+INS2651_AT(sender.guard, 22, 1);
+INS2651_AT(receiver.state.phase, 24, 1);
+INS2651_AT(receiver.state.countdown, 25, 1);
+INS2651_AT(receiver.state.value, 26, 1);
+INS2651_AT(receiver.state.wrong, 27, 1);
+INS2651_AT(receiver.state.look, 28, 2);
+INS2651_AT(receiver.format.factor, 30, 1);
+INS2651_AT(receiver.format.length, 31, 1);
+INS2651_AT(receiver.format.parity, 32, 1);
+INS2651_AT(receiver.format.even, 33, 1);
+INS2651_AT(receiver.format.stop, 34, 1);
+INS2651_AT(receiver.holding, 35, 1);
+INS2651_AT(receiver.unread, 36, 1);
+INS2651_AT(flags.framing, 38, 1);
+INS2651_AT(flags.overrun, 39, 1);
+INS2651_AT(flags.parity, 40, 1);
+INS2651_AT(flags.empty, 41, 1);
+INS2651_AT(flags.change, 42, 1);
+#undef INS2651_AT
+#undef INS2651_HOLDS
+
+/* Resets the device, all three inputs high; answers 0. */
+uint16_t ins2651_reset(ins2651 *device);
+
+/* Reads the register at an address; answers 256 times the refusal, plus the value. */
+uint16_t ins2651_read(ins2651 *device, uint8_t address);
+
+/* Writes the register at an address; answers the refusal. */
+uint16_t ins2651_write(ins2651 *device, uint8_t address, uint8_t value);
+
+/* Sets the levels of DSR, DCD and CTS; answers the refusal. */
+uint16_t ins2651_pins(ins2651 *device, uint8_t dsr, uint8_t dcd, uint8_t cts);
+
+/* Does a transmit tick; answers the level sent, 0 or 1. */
+uint16_t ins2651_transmit(ins2651 *device);
+
+/* Does a receive tick with the line at a level; answers the refusal. */
+uint16_t ins2651_receive(ins2651 *device, uint8_t level);
+
+/* Answers the levels of the five outputs, by the bits named above; the device stays as it is. */
+uint16_t ins2651_outputs(ins2651 *device);
+
+#ifdef __cplusplus
+}
+#endif
+
+#endif
