@@ -1,0 +1,14 @@
+//! Prints an input of the speed test: `input idle`, `input full16` or `input full64`.
+
+use speed::input::{full, idle, FULL_16, FULL_64};
+
+fn main() {
+    let name = std::env::args().nth(1).expect("the name of an input");
+    let text = match name.as_str() {
+        "idle" => idle(500),
+        "full16" => full(&FULL_16, 13_000),
+        "full64" => full(&FULL_64, 13_000),
+        _ => panic!("no input is called {name}"),
+    };
+    print!("{text}");
+}

@@ -1,0 +1,206 @@
+//! The plain program does what the independent model does, so that its time is the time of the same work.
+
+use model::chip::Chip as Slow;
+use model::Generator;
+use speed::chip::{joined_ticks, Chip};
+use speed::input::{full, idle, Frames, FULL_16, FULL_64};
+
+/// One chip both ways; each call is answered alike.
+struct Twin {
+    fast: Chip,
+    slow: Slow,
+}
+
+impl Twin {
+    fn just_reset() -> Twin {
+        Twin {
+            fast: Chip::just_reset(),
+            slow: Slow::just_reset(),
+        }
+    }
+
+    fn read(&mut self, address: u8) {
+        let (refusal, value) = self.slow.read(address);
+        let read = if refusal == 0 {
+            Ok(value)
+        } else {
+            Err(refusal)
+        };
+        assert_eq!(self.fast.read(address), read, "read {address}");
+    }
+
+    fn write(&mut self, address: u8, value: u8) {
+        let refusal = self.slow.write(address, value);
+        assert_eq!(
+            number(self.fast.write(address, value)),
+            refusal,
+            "write {address} {value}"
+        );
+        assert_eq!(self.fast.syn(), self.slow.syn());
+    }
+
+    fn set_pins(&mut self, dsr: u8, dcd: u8, cts: u8) {
+        let refusal = self.slow.set_pins(dsr, dcd, cts);
+        assert_eq!(number(self.fast.set_pins(dsr, dcd, cts)), refusal);
+    }
+
+    fn transmit(&mut self) -> bool {
+        let level = self.fast.transmit();
+        assert_eq!(u8::from(level), self.slow.transmit());
+        level
+    }
+
+    fn receive(&mut self, level: bool) {
+        self.fast.receive(level);
+        assert_eq!(self.slow.receive(level.into()), 0);
+    }
+
+    /// Status is read at each tick of some runs only, as its read clears the change-mark.
+    fn tick(a: &mut Twin, b: &mut Twin, looks: bool) {
+        let (from_a, from_b) = (a.transmit(), b.transmit());
+        a.receive(from_b);
+        b.receive(from_a);
+        if looks {
+            a.read(1);
+            b.read(1);
+        }
+    }
+}
+
+fn number(done: Result<(), u8>) -> u8 {
+    done.err().unwrap_or(0)
+}
+
+/// A mode 1 that is mostly accepted.
+fn mode1(g: &mut Generator) -> u8 {
+    match g.draw(8) {
+        0 => g.draw(256) as u8,
+        _ => (64 * (1 + g.draw(3)) + 4 * g.draw(16) + 1 + g.draw(3)) as u8,
+    }
+}
+
+/// A command that mostly leaves both directions on and sometimes breaks.
+fn command(g: &mut Generator) -> u8 {
+    match g.draw(8) {
+        0 => g.draw(256) as u8,
+        1 => 47,
+        2 => 55,
+        _ => 39,
+    }
+}
+
+/// A level that is mostly low.
+fn level(g: &mut Generator) -> u8 {
+    [0, 0, 0, 0, 0, 0, 1, 2][g.draw(8) as usize]
+}
+
+fn call(g: &mut Generator, t: &mut Twin) {
+    match g.draw(16) {
+        0 => t.write(2, mode1(g)),
+        1 => t.write(2, g.draw(256) as u8),
+        2 | 3 => t.write(3, command(g)),
+        4..=8 => t.write(0, g.draw(256) as u8),
+        9 => t.write(g.draw(6) as u8, g.draw(256) as u8),
+        10 => t.set_pins(level(g), level(g), level(g)),
+        11 => t.set_pins(0, 0, 0),
+        12 if g.draw(8) == 0 => *t = Twin::just_reset(),
+        _ => t.read(g.draw(5) as u8),
+    }
+}
+
+/// Set up anew with a mode of the run's own, so that every mode comes up.
+fn set_up(t: &mut Twin, mode1: u8, mode2: u8) {
+    t.read(3);
+    t.write(2, mode1);
+    t.write(2, mode2);
+    t.write(3, 39);
+    t.set_pins(0, 0, 0);
+}
+
+#[test]
+fn the_fast_chip_is_the_models() {
+    let mut g = Generator { seed: 2651 };
+    let mut calls = 0;
+    for run in 0..512u32 {
+        let (mut a, mut b) = (Twin::just_reset(), Twin::just_reset());
+        let mode = 64 + (run % 192) as u8;
+        let clocks = 16 * g.draw(4) as u8;
+        set_up(&mut a, mode, clocks);
+        set_up(&mut b, mode, clocks);
+        for _ in 0..40 {
+            for _ in 0..g.draw(4) {
+                call(&mut g, &mut a);
+                call(&mut g, &mut b);
+            }
+            let (ticks, looks) = (g.draw(250), g.draw(2) == 0);
+            calls += 4 * ticks;
+            (0..ticks).for_each(|_| Twin::tick(&mut a, &mut b, looks));
+            noise(&mut g, &mut a);
+        }
+    }
+    assert!(calls > 5_000_000, "{calls} calls of ticks alone");
+}
+
+/// A line that no sender is at: pulses of any length.
+fn noise(g: &mut Generator, t: &mut Twin) {
+    let level = g.draw(2) == 1;
+    for _ in 0..g.draw(40) {
+        t.transmit();
+        t.receive(level);
+    }
+}
+
+#[test]
+fn joined_ticks_are_the_models() {
+    let (mut a, mut b) = (Twin::just_reset(), Twin::just_reset());
+    set_up(&mut a, 126, 0);
+    set_up(&mut b, 126, 0);
+    for character in 0..=255 {
+        a.write(0, character);
+        b.write(0, !character);
+        joined_ticks(&mut a.fast, &mut b.fast, 177);
+        model::chip::joined_ticks(&mut a.slow, &mut b.slow, 177);
+        (a.read(1), b.read(1), a.read(0), b.read(0));
+    }
+}
+
+fn same_answer(input: String) -> String {
+    let answer = speed::session::answer(input.as_bytes());
+    assert_eq!(answer, model::session::answer(input.as_bytes()));
+    String::from_utf8(answer).unwrap()
+}
+
+#[test]
+fn the_plain_session_is_the_models() {
+    for input in [
+        "",
+        "W\tA\t2\t0\nW\tB\t2\t1\nW\tA\t3\t64\nR\tA\t4\nP\tB\t0\t2\t0\nZ\tA\nR\tA\t1\nL\t7",
+    ] {
+        same_answer(input.to_string());
+    }
+    assert!(same_answer(idle(1)).ends_with("R\tA\t1\t197\nR\tB\t1\t197\nN\t12\t0\n"));
+}
+
+/// Each character is read at the other end, and no error flag is set.
+fn nothing_is_lost(frames: &Frames) {
+    let answer = same_answer(full(frames, 300));
+    let mut lines = answer.lines();
+    for k in 0..300 {
+        assert_eq!(
+            lines.next(),
+            Some(&*format!("R\tA\t0\t{}", (13 * k + 85) % 256))
+        );
+        assert_eq!(
+            lines.next(),
+            Some(&*format!("R\tB\t0\t{}", (7 * k + 1) % 256))
+        );
+    }
+    assert_eq!(lines.next(), Some("R\tA\t1\t197"));
+    assert_eq!(lines.next(), Some("R\tB\t1\t197"));
+}
+
+#[test]
+fn a_full_line_is_the_models() {
+    nothing_is_lost(&FULL_16);
+    nothing_is_lost(&FULL_64);
+}
