@@ -26,8 +26,8 @@ const RESET_ERROR: u8 = 16;
 const RTS: u8 = 32;
 
 // The clock bits of mode 2.
-const INTERNAL_TRANSMIT_CLOCK: u8 = 32;
-const INTERNAL_RECEIVE_CLOCK: u8 = 16;
+pub const INTERNAL_TRANSMIT_CLOCK: u8 = 32;
+pub const INTERNAL_RECEIVE_CLOCK: u8 = 16;
 
 /// Where the receiver stands ("Receiving").
 #[derive(Clone, Debug, PartialEq, Eq)]
@@ -78,9 +78,29 @@ pub struct Chip {
     cts: u8,
 }
 
+/// What an onlooker sees of a chip between two calls; no rule rests on it.
+#[derive(Clone, Copy, Debug)]
+pub struct View {
+    pub mode1: Option<u8>,
+    pub mode2: u8,
+    pub command: u8,
+    pub pins: [u8; 3],
+    pub status: u8,
+    pub empty_mark: bool,
+    pub change_mark: bool,
+    /// Whether THR is full, whether a frame is under way, and the guard.
+    pub waiting: bool,
+    pub sending: bool,
+    pub guard: u32,
+    /// Receive on, DCD low and mode 1 accepted: a receive tick is heard.
+    pub listening: bool,
+    /// The character under way: its format, and its samples so far.
+    pub hearing: Option<(Format, usize)>,
+}
+
 /// The format that an accepted mode 1 stands for ("Registers"), in a direction
 /// whose clock is internal or not.
-fn decode(mode1: u8, internal: bool) -> Format {
+pub fn decode(mode1: u8, internal: bool) -> Format {
     let factor = match mode1 & 3 {
         _ if internal => 16,
         1 => 1,
@@ -261,8 +281,7 @@ impl Chip {
             return NO_SUCH_LEVEL;
         }
         let level = level == 1;
-        let on = self.commanded(RECEIVE) && self.dcd == 0;
-        let Some(now) = self.format(INTERNAL_RECEIVE_CLOCK).filter(|_| on) else {
+        let Some(now) = self.heard_format() else {
             self.receiver = Receiver::Waiting;
             return DONE;
         };
@@ -337,6 +356,33 @@ impl Chip {
         bits.iter()
             .rev()
             .fold(0, |sum, &bit| 2 * sum + u8::from(bit))
+    }
+
+    pub fn view(&self) -> View {
+        View {
+            mode1: self.mode1,
+            mode2: self.mode2,
+            command: self.command,
+            pins: [self.dsr, self.dcd, self.cts],
+            status: self.status(),
+            empty_mark: self.empty_mark,
+            change_mark: self.change_mark,
+            waiting: self.waiting.is_some(),
+            sending: !self.sending.is_empty(),
+            guard: self.guard,
+            listening: self.heard_format().is_some(),
+            hearing: match &self.receiver {
+                Receiver::Hearing { format, samples } => Some((*format, samples.len())),
+                Receiver::Waiting | Receiver::Searching => None,
+            },
+        }
+    }
+
+    /// The format of a character that would begin now, if the receiver listens:
+    /// receive on, DCD low and mode 1 accepted ("Receiving").
+    fn heard_format(&self) -> Option<Format> {
+        let on = self.commanded(RECEIVE) && self.dcd == 0;
+        self.format(INTERNAL_RECEIVE_CLOCK).filter(|_| on)
     }
 
     fn commanded(&self, bit: u8) -> bool {

@@ -3,11 +3,20 @@
 //!
 //! It covers the sections "Sending, by transmit ticks" and "Receiving, by
 //! receive ticks" of document 01, for a receiver that is on throughout
-//! and keeps one mode. The module `chip` has the whole chip, and `session` the
-//! session program.
+//! and keeps one mode. The module `chip` has the whole chip, `session` the
+//! session program and `calls` the text of the C driver. The other modules are
+//! the random tests from outside: `generate` draws sessions and runs of calls,
+//! `program` runs the proved program, `reach` counts what was reached and
+//! `shorten` cuts a difference down.
 
+pub mod calls;
 pub mod chip;
+pub mod draw;
+pub mod generate;
+pub mod program;
+pub mod reach;
 pub mod session;
+pub mod shorten;
 
 /// How characters are put on the line. `stop` is in ticks, not in bits, so
 /// that one and a half needs no fraction (with a factor of 1 it counts as 1).

@@ -7,6 +7,7 @@
 //! session text".
 
 use crate::chip::{joined_ticks, Chip};
+use std::fmt;
 
 /// Lines taken, refused ones too.
 const MOST_LINES: usize = 65_535;
@@ -19,14 +20,15 @@ const MOST_DIGITS: usize = 5;
 const NO_SHAPE: u8 = 6;
 const TOO_LONG: u8 = 7;
 
-#[derive(Clone, Copy)]
-enum Unit {
+#[derive(Clone, Copy, Debug, PartialEq, Eq)]
+pub enum Unit {
     A,
     B,
 }
 
 /// A line of a known shape.
-enum Record {
+#[derive(Clone, Copy, Debug)]
+pub enum Record {
     Write(Unit, u8, u8),
     Read(Unit, u8),
     /// The levels of DSR, DCD and CTS, in this order.
@@ -35,17 +37,40 @@ enum Record {
     JoinedTicks(u16),
 }
 
+/// The line of the record, with its newline.
+impl fmt::Display for Record {
+    fn fmt(&self, f: &mut fmt::Formatter) -> fmt::Result {
+        match *self {
+            Record::Write(u, address, value) => writeln!(f, "W\t{}\t{address}\t{value}", letter(u)),
+            Record::Read(u, address) => writeln!(f, "R\t{}\t{address}", letter(u)),
+            Record::Pins(u, [dsr, dcd, cts]) => {
+                writeln!(f, "P\t{}\t{dsr}\t{dcd}\t{cts}", letter(u))
+            }
+            Record::Reset(u) => writeln!(f, "Z\t{}", letter(u)),
+            Record::JoinedTicks(count) => writeln!(f, "L\t{count}"),
+        }
+    }
+}
+
+/// What the records of a session act on.
+pub trait Bench {
+    /// The text that a record answers, which is empty for all but a read, or the
+    /// chip's refusal.
+    fn act(&mut self, record: Record) -> Result<String, u8>;
+}
+
 /// The whole output for the whole input.
 pub fn answer(input: &[u8]) -> Vec<u8> {
-    let mut pair = Pair {
-        a: Chip::just_reset(),
-        b: Chip::just_reset(),
-    };
+    answer_on(&mut Pair::just_reset(), input)
+}
+
+/// The same, on a bench that is at its beginning.
+pub fn answer_on(bench: &mut impl Bench, input: &[u8]) -> Vec<u8> {
     let mut output = String::new();
     let (mut taken, mut refused) = (0, 0);
     for line in lines(input).take(MOST_LINES) {
         taken += 1;
-        match parse(line).and_then(|record| pair.act(record)) {
+        match parse(line).and_then(|record| bench.act(record)) {
             Ok(text) => output += &text,
             Err(number) => {
                 refused += 1;
@@ -59,7 +84,7 @@ pub fn answer(input: &[u8]) -> Vec<u8> {
 
 /// The lines of `input` without their newlines. The last may lack its own; what
 /// follows a last newline is no line.
-fn lines(input: &[u8]) -> impl Iterator<Item = &[u8]> {
+pub fn lines(input: &[u8]) -> impl Iterator<Item = &[u8]> {
     input
         .split_inclusive(|&byte| byte == b'\n')
         .map(|line| line.strip_suffix(b"\n").unwrap_or(line))
@@ -112,14 +137,28 @@ fn decimal<T: TryFrom<u32>>(field: &[u8]) -> Option<T> {
 }
 
 /// The two chips, joined by a line.
-struct Pair {
-    a: Chip,
-    b: Chip,
+pub struct Pair {
+    pub a: Chip,
+    pub b: Chip,
 }
 
 impl Pair {
-    /// The text that a record answers, which is empty for all but a read, or the
-    /// chip's refusal.
+    pub fn just_reset() -> Pair {
+        Pair {
+            a: Chip::just_reset(),
+            b: Chip::just_reset(),
+        }
+    }
+
+    pub fn chip(&mut self, unit: Unit) -> &mut Chip {
+        match unit {
+            Unit::A => &mut self.a,
+            Unit::B => &mut self.b,
+        }
+    }
+}
+
+impl Bench for Pair {
     fn act(&mut self, record: Record) -> Result<String, u8> {
         match record {
             Record::Write(unit, address, value) => done(self.chip(unit).write(address, value))?,
@@ -133,13 +172,6 @@ impl Pair {
             Record::JoinedTicks(count) => joined_ticks(&mut self.a, &mut self.b, count.into()),
         }
         Ok(String::new())
-    }
-
-    fn chip(&mut self, unit: Unit) -> &mut Chip {
-        match unit {
-            Unit::A => &mut self.a,
-            Unit::B => &mut self.b,
-        }
     }
 }
 

@@ -1,0 +1,119 @@
+//! Random sessions against the proved session program, whose command stands
+//! behind `--`: byte for byte the same answers as the model's, and demand 3 in
+//! the sessions that keep its premises.
+
+use model::generate::{alike, session, Kind, KINDS, SESSIONS};
+use model::program::Program;
+use model::reach::{Reach, Watched};
+use model::session::{answer, answer_on, Pair};
+use model::shorten;
+use std::process::ExitCode;
+use std::thread;
+use std::time::{Duration, Instant};
+
+/// Workers, each with every so-manieth session.
+const WORKERS: usize = 2;
+/// Shortening ends then with what it has.
+const SHORTENING: Duration = Duration::from_secs(60);
+
+/// A session that failed, and why.
+struct Failure {
+    place: usize,
+    why: String,
+}
+
+/// All sessions in order.
+fn all() -> impl Iterator<Item = (Kind, u32)> {
+    let of_kind = |kind| (0..SESSIONS).map(move |index| (kind, index));
+    KINDS.into_iter().flat_map(of_kind)
+}
+
+/// What a worker reached, and its first failure.
+fn work(program: &Program, worker: usize) -> (Reach, Option<Failure>) {
+    let mut reach = Reach::of_sessions();
+    for (place, (kind, index)) in all().enumerate().skip(worker).step_by(WORKERS) {
+        if let Err(why) = check(program, kind, index, &mut reach) {
+            return (reach, Some(Failure { place, why }));
+        }
+    }
+    (reach, None)
+}
+
+fn check(program: &Program, kind: Kind, index: u32, reach: &mut Reach) -> Result<(), String> {
+    let input = session(kind, index);
+    let pair = Pair::just_reset();
+    let expected = answer_on(&mut Watched { pair, reach }, &input);
+    reach.session(&input, &expected);
+    let seed = format!("{kind:?} session of seed {index}");
+    if kind == Kind::Alike {
+        if let Some(fault) = alike::fault(&input, &expected) {
+            return Err(format!("{seed}: the model breaks demand 3: {fault}\n"));
+        }
+    }
+    if program.answer(&input).as_deref() == Ok(&expected) {
+        return Ok(());
+    }
+    Err(format!("{seed}: {}", explain(program, &input)))
+}
+
+/// The shortest session that differs, and both answers to it.
+fn explain(program: &Program, input: &[u8]) -> String {
+    let until = Instant::now() + SHORTENING;
+    let differs = |input: &[u8]| {
+        Instant::now() < until && program.answer(input).as_deref() != Ok(&answer(input))
+    };
+    let shortest = shorten::session(input, differs);
+    let got = match program.answer(&shortest) {
+        Ok(answer) => visible(&answer),
+        Err(why) => format!("  {why}\n"),
+    };
+    format!(
+        "the program and the model differ\nsession:\n{}model:\n{}program:\n{got}",
+        visible(&shortest),
+        visible(&answer(&shortest)),
+    )
+}
+
+/// Lines with tabs and other bytes that do not print made visible.
+fn visible(text: &[u8]) -> String {
+    let lines = text.split_inclusive(|&byte| byte == b'\n');
+    lines
+        .map(|line| format!("  {}\n", line.escape_ascii()))
+        .collect()
+}
+
+fn main() -> ExitCode {
+    let program = match Program::of_arguments() {
+        Ok(program) => program,
+        Err(usage) => {
+            eprintln!("random_sessions: {usage}");
+            return ExitCode::from(2);
+        }
+    };
+    let worked: Vec<_> = thread::scope(|scope| {
+        let program = &program;
+        let workers: Vec<_> = (0..WORKERS)
+            .map(|worker| scope.spawn(move || work(program, worker)))
+            .collect();
+        workers
+            .into_iter()
+            .map(|worker| worker.join().expect("no panic"))
+            .collect()
+    });
+    let mut reach = Reach::of_sessions();
+    worked.iter().for_each(|(reached, _)| reach.add(reached));
+    let failures = worked.into_iter().filter_map(|(_, failure)| failure);
+    // The first one, so that two runs say the same.
+    if let Some(failure) = failures.min_by_key(|failure| failure.place) {
+        print!("random_sessions: {}", failure.why);
+        return ExitCode::FAILURE;
+    }
+    let (report, whole) = reach.report();
+    print!("{report}");
+    println!("random_sessions: {} sessions, all alike", all().count());
+    if whole {
+        return ExitCode::SUCCESS;
+    }
+    println!("random_sessions: what is MISSING was not reached");
+    ExitCode::FAILURE
+}

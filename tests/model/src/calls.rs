@@ -1,0 +1,252 @@
+//! The text of the C driver: a call of the chip on each line, and one line for
+//! its answer. Two more lines set and show the bytes of the lent device.
+
+use crate::chip::{Chip, View};
+use crate::shorten::{shorten, smaller};
+use std::fmt;
+
+/// The bytes of a device in C's layout (docs/RANGES.md).
+pub const DEVICE_BYTES: usize = 44;
+
+#[derive(Clone, Copy, Debug, PartialEq, Eq)]
+pub enum Call {
+    Reset,
+    Read(u8),
+    Write(u8, u8),
+    /// The levels of DSR, DCD and CTS, in this order.
+    Pins([u8; 3]),
+    Transmit,
+    Receive(u8),
+    Outputs,
+}
+
+impl Call {
+    pub const NAMES: [&'static str; 7] = [
+        "reset", "read", "write", "pins", "transmit", "receive", "outputs",
+    ];
+
+    pub fn name(&self) -> &'static str {
+        let place = match self {
+            Call::Reset => 0,
+            Call::Read(_) => 1,
+            Call::Write(..) => 2,
+            Call::Pins(_) => 3,
+            Call::Transmit => 4,
+            Call::Receive(_) => 5,
+            Call::Outputs => 6,
+        };
+        Call::NAMES[place]
+    }
+
+    /// The refusal, and the numbers that the driver answers.
+    pub fn make(&self, chip: &mut Chip) -> (u8, Vec<u8>) {
+        let refusal = match *self {
+            Call::Reset => {
+                chip.reset();
+                0
+            }
+            Call::Read(address) => {
+                let (refusal, value) = chip.read(address);
+                return (refusal, vec![refusal, value]);
+            }
+            Call::Write(address, value) => chip.write(address, value),
+            Call::Pins([dsr, dcd, cts]) => chip.set_pins(dsr, dcd, cts),
+            Call::Transmit => return (0, vec![chip.transmit()]),
+            Call::Receive(level) => chip.receive(level),
+            Call::Outputs => return (0, chip.outputs().to_vec()),
+        };
+        (refusal, vec![refusal])
+    }
+}
+
+/// Bytes that are no device in range.
+#[derive(Clone, Copy, Debug, PartialEq, Eq)]
+pub enum Garbage {
+    AllOnes,
+    Random,
+}
+
+impl Garbage {
+    pub const ALL: [Garbage; 2] = [Garbage::AllOnes, Garbage::Random];
+
+    pub fn name(&self) -> &'static str {
+        match self {
+            Garbage::AllOnes => "all ones",
+            Garbage::Random => "random bytes",
+        }
+    }
+}
+
+/// A line of the driver's input.
+#[derive(Clone, Copy, Debug, PartialEq, Eq)]
+pub enum Line {
+    Call(Call),
+    Device(Garbage, [u8; DEVICE_BYTES]),
+    Bytes,
+}
+
+impl fmt::Display for Line {
+    fn fmt(&self, f: &mut fmt::Formatter) -> fmt::Result {
+        match self {
+            Line::Call(call) => {
+                write!(f, "{}", call.name())?;
+                match *call {
+                    Call::Read(number) | Call::Receive(number) => write!(f, " {number}"),
+                    Call::Write(address, value) => write!(f, " {address} {value}"),
+                    Call::Pins([dsr, dcd, cts]) => write!(f, " {dsr} {dcd} {cts}"),
+                    Call::Reset | Call::Transmit | Call::Outputs => Ok(()),
+                }
+            }
+            Line::Device(_, bytes) => write!(f, "device {}", hexadecimal(bytes)),
+            Line::Bytes => write!(f, "bytes"),
+        }
+    }
+}
+
+pub fn hexadecimal(bytes: &[u8]) -> String {
+    bytes.iter().map(|byte| format!("{byte:02x}")).collect()
+}
+
+/// The device that a host lends, as the model has it.
+pub enum Lent {
+    InRange(Chip),
+    /// It is taken as one just reset ("Refusal numbers").
+    OutOfRange(Garbage, [u8; DEVICE_BYTES]),
+}
+
+impl Lent {
+    /// What a line answers; none where the model cannot say it, which are the
+    /// bytes of a device in range.
+    pub fn answer(&mut self, line: &Line) -> Option<String> {
+        match line {
+            Line::Call(call) => Some(numbers(&self.call(call).1)),
+            Line::Device(garbage, bytes) => {
+                *self = Lent::OutOfRange(*garbage, *bytes);
+                Some("0".to_string())
+            }
+            Line::Bytes => match self {
+                Lent::InRange(_) => None,
+                Lent::OutOfRange(_, bytes) => Some(hexadecimal(bytes)),
+            },
+        }
+    }
+
+    /// The chip, which is one just reset where the device is out of range.
+    pub fn view(&self) -> View {
+        match self {
+            Lent::InRange(chip) => chip.view(),
+            Lent::OutOfRange(..) => Chip::just_reset().view(),
+        }
+    }
+
+    /// The refusal, and the numbers answered. A refused call hands bytes out of
+    /// range back as given, and `outputs` hands no device back at all.
+    pub fn call(&mut self, call: &Call) -> (u8, Vec<u8>) {
+        match self {
+            Lent::InRange(chip) => call.make(chip),
+            Lent::OutOfRange(..) => {
+                let mut chip = Chip::just_reset();
+                let answer = call.make(&mut chip);
+                if answer.0 == 0 && *call != Call::Outputs {
+                    *self = Lent::InRange(chip);
+                }
+                answer
+            }
+        }
+    }
+}
+
+/// Numbers as the driver writes them, parted by one blank.
+pub fn numbers(all: &[u8]) -> String {
+    let words: Vec<String> = all.iter().map(u8::to_string).collect();
+    words.join(" ")
+}
+
+/// The driver's input for `lines`.
+pub fn text(lines: &[Line]) -> String {
+    lines.iter().map(|line| format!("{line}\n")).collect()
+}
+
+/// Where a driver's answers first differ from the model's.
+#[derive(Debug, PartialEq, Eq)]
+pub struct Difference {
+    /// From 0; the number of lines where the driver answers too much.
+    pub line: usize,
+    pub model: String,
+    pub driver: String,
+}
+
+/// The first difference between the model and the driver's whole output for
+/// `lines`, which begin with a reset or a device.
+pub fn difference(lines: &[Line], output: &str) -> Option<Difference> {
+    const NOTHING: &str = "no line";
+    let mut lent = Lent::InRange(Chip::just_reset());
+    let mut answers = output.split_terminator('\n');
+    for (line, call) in lines.iter().enumerate() {
+        let model = lent.answer(call);
+        let driver = answers.next().unwrap_or(NOTHING);
+        let same = match &model {
+            Some(model) => model == driver,
+            None => shows_bytes(driver),
+        };
+        if !same {
+            return Some(Difference {
+                line,
+                model: model.unwrap_or("some bytes".to_string()),
+                driver: driver.to_string(),
+            });
+        }
+    }
+    answers.next().map(|further| Difference {
+        line: lines.len(),
+        model: NOTHING.to_string(),
+        driver: further.to_string(),
+    })
+}
+
+/// Whether a text can be the bytes of a device.
+fn shows_bytes(text: &str) -> bool {
+    let digit = |byte: u8| matches!(byte, b'0'..=b'9' | b'a'..=b'f');
+    text.len() == 2 * DEVICE_BYTES && text.bytes().all(digit)
+}
+
+/// The shortest run found that still differs.
+pub fn shortest(lines: &[Line], differs: impl Fn(&[Line]) -> bool) -> Vec<Line> {
+    let differs = |lines: &[Line]| begins_known(lines) && differs(lines);
+    shorten(lines.to_vec(), simpler_lines, differs)
+}
+
+/// Whether a run begins with a device that the model knows.
+fn begins_known(lines: &[Line]) -> bool {
+    matches!(
+        lines.first(),
+        Some(Line::Call(Call::Reset) | Line::Device(..))
+    )
+}
+
+/// `line` with one number smaller.
+fn simpler_lines(line: &Line) -> Vec<Line> {
+    let less = |number: u8| {
+        smaller(number.into())
+            .into_iter()
+            .map(|number| number as u8)
+    };
+    let calls: Vec<Call> = match *line {
+        Line::Call(Call::Read(address)) => less(address).map(Call::Read).collect(),
+        Line::Call(Call::Receive(level)) => less(level).map(Call::Receive).collect(),
+        Line::Call(Call::Write(address, value)) => less(value)
+            .map(|value| Call::Write(address, value))
+            .collect(),
+        Line::Call(Call::Pins(levels)) => (0..3)
+            .flat_map(|pin| {
+                less(levels[pin]).map(move |level| {
+                    let mut levels = levels;
+                    levels[pin] = level;
+                    Call::Pins(levels)
+                })
+            })
+            .collect(),
+        _ => Vec::new(),
+    };
+    calls.into_iter().map(Line::Call).collect()
+}

@@ -1,0 +1,252 @@
+//! Random runs of calls for the C driver. Each run has its own proportion of
+//! transmit and receive ticks; the levels received are frames, good and damaged,
+//! short pulses and noise, or what was sent.
+
+use super::{accepted_mode, ACCEPTED_MODES};
+use crate::calls::{Call, Garbage, Lent, Line, DEVICE_BYTES};
+use crate::chip::{decode, Chip, INTERNAL_RECEIVE_CLOCK};
+use crate::draw::Draws;
+use crate::{frame, Format};
+use std::collections::VecDeque;
+
+pub const RUNS: u32 = 96;
+/// A run ends with the episode that brings it over this number of lines.
+const LINES: usize = 2800;
+/// The kind in the seeds, behind those of the sessions.
+const KIND: u32 = 4;
+
+/// Force break in the command ("Registers").
+const BREAK: u8 = 8;
+
+/// Transmit ticks and receive ticks of one turn, and whether the level received
+/// is the one that was sent.
+const PROPORTIONS: [(u32, u32, bool); 4] =
+    [(4, 1, false), (1, 4, false), (1, 1, false), (1, 1, true)];
+
+/// A run that is being written, and the device that it leaves.
+struct Run<'a> {
+    draws: &'a mut Draws,
+    lines: Vec<Line>,
+    lent: Lent,
+    /// The levels that come on the line.
+    levels: VecDeque<u8>,
+}
+
+pub fn run(index: u32) -> Vec<Line> {
+    let mut draws = Draws::new(KIND, index);
+    let mut run = Run {
+        draws: &mut draws,
+        lines: Vec::new(),
+        lent: Lent::InRange(Chip::just_reset()),
+        levels: VecDeque::new(),
+    };
+    run.garbage();
+    let mut mode = index * ACCEPTED_MODES / RUNS;
+    while run.lines.len() < LINES {
+        run.set_up(accepted_mode(mode % ACCEPTED_MODES));
+        run.episode(PROPORTIONS[(index % 4) as usize]);
+        mode += 1;
+    }
+    run.lines
+}
+
+impl Run<'_> {
+    fn add(&mut self, line: Line) {
+        self.lent.answer(&line);
+        self.lines.push(line);
+    }
+
+    /// The numbers answered.
+    fn call(&mut self, call: Call) -> Vec<u8> {
+        self.lines.push(Line::Call(call));
+        self.lent.call(&call).1
+    }
+
+    fn device(&mut self, garbage: Garbage) {
+        let bytes = match garbage {
+            Garbage::AllOnes => [255; DEVICE_BYTES],
+            Garbage::Random => [(); DEVICE_BYTES].map(|()| self.draws.byte()),
+        };
+        self.add(Line::Device(garbage, bytes));
+    }
+
+    /// Each call as the first on a device out of range, then the bytes, which
+    /// the model knows after a refusal and after `outputs`, and a look at what
+    /// the device is now.
+    fn garbage(&mut self) {
+        let level = self.draws.between(2, 255) as u8;
+        let address = self.draws.between(4, 255) as u8;
+        let value = self.draws.byte();
+        let calls = [
+            Call::Reset,
+            Call::Read(self.draws.below(4) as u8),
+            Call::Read(address),
+            Call::Write(2, accepted_mode(self.draws.below(ACCEPTED_MODES))),
+            Call::Write(self.draws.below(2) as u8, value),
+            Call::Write(address, value),
+            Call::Write(2, value & 63),
+            Call::Write(3, value | 128),
+            Call::Pins([0, 0, 0]),
+            Call::Pins([0, level, 0]),
+            Call::Transmit,
+            Call::Receive(value & 1),
+            Call::Receive(level),
+            Call::Outputs,
+        ];
+        for garbage in Garbage::ALL {
+            for call in calls {
+                self.device(garbage);
+                self.call(call);
+                self.add(Line::Bytes);
+                self.call(Call::Outputs);
+                for address in [1, 2, 2, 3, 0] {
+                    self.call(Call::Read(address));
+                }
+            }
+        }
+    }
+
+    /// Both modes, a command and low pins, after a reset, on a device out of
+    /// range, or on the device as it is.
+    fn set_up(&mut self, mode1: u8) {
+        match self.draws.below(8) {
+            0 => self.device(Garbage::AllOnes),
+            1 => self.device(Garbage::Random),
+            2..=5 => drop(self.call(Call::Reset)),
+            _ => {}
+        }
+        self.call(Call::Read(3));
+        self.call(Call::Write(2, mode1));
+        let mode2 = self.draws.byte() & self.draws.of(&[15, 207, 255, 255]);
+        self.call(Call::Write(2, mode2));
+        let value = self.draws.byte();
+        self.call(Call::Write(3, 37));
+        self.call(Call::Pins([0, 0, 0]));
+        // Behind a mark, so that the first frames are heard.
+        self.call(Call::Transmit);
+        self.call(Call::Receive(1));
+        self.call(Call::Write(0, value));
+        self.levels = numbers(frame(&self.format(), !value)).into();
+    }
+
+    /// The format that is received in; any where no mode is set.
+    fn format(&self) -> Format {
+        let view = self.lent.view();
+        let internal = view.mode2 & INTERNAL_RECEIVE_CLOCK != 0;
+        decode(view.mode1.unwrap_or(accepted_mode(0)), internal)
+    }
+
+    /// A few frames of turns, more of the short ones, with other calls between.
+    fn episode(&mut self, (transmits, receives, looped): (u32, u32, bool)) {
+        let length = self.format().frame_length();
+        let turns = (3 * length + 60) / receives + self.draws.below(20);
+        for turn in 0..turns {
+            let mut level = 1;
+            for _ in 0..transmits {
+                level = self.call(Call::Transmit)[0];
+            }
+            for _ in 0..receives {
+                let level = if looped { level } else { self.level() };
+                self.call(Call::Receive(level));
+            }
+            if self.draws.one_in(length / 3 + 2) {
+                self.attend();
+            }
+            // The first character comes whole.
+            if turn * receives > length && self.draws.one_in(length + 2) {
+                self.disturb();
+            }
+        }
+        self.call(Call::Read(1));
+        self.call(Call::Read(0));
+    }
+
+    /// The next level on the line; a new piece of the recording where it is over.
+    fn level(&mut self) -> u8 {
+        if self.levels.is_empty() {
+            let format = self.format();
+            self.levels = piece(self.draws, &format).into();
+        }
+        self.levels.pop_front().unwrap_or(1)
+    }
+
+    /// What a host does all the time.
+    fn attend(&mut self) {
+        let call = match self.draws.below(8) {
+            0..=2 => Call::Write(0, self.draws.byte()),
+            3..=4 => Call::Read(1),
+            5 => Call::Read(0),
+            6 => Call::Read(self.draws.below(5) as u8),
+            _ => Call::Outputs,
+        };
+        self.call(call);
+    }
+
+    /// What it does seldom, or never.
+    fn disturb(&mut self) {
+        let call = match self.draws.below(16) {
+            0 => Call::Reset,
+            1..=2 => Call::Write(2, self.draws.byte()),
+            3..=4 => Call::Write(2, accepted_mode(self.draws.below(ACCEPTED_MODES))),
+            5 => Call::Write(3, self.draws.byte()),
+            6..=8 => self.command(),
+            9..=10 => Call::Pins([(); 3].map(|()| self.draws.of(&[0, 0, 0, 1]))),
+            11 => Call::Pins([(); 3].map(|()| self.draws.of(&[0, 1, 2, 255]))),
+            12 => Call::Receive(self.draws.byte()),
+            13 => Call::Read(self.draws.byte()),
+            14 => Call::Write(self.draws.byte(), self.draws.byte()),
+            _ => Call::Write(1, self.draws.byte()),
+        };
+        self.call(call);
+    }
+
+    /// A command that does something; the end of a break, with a character that
+    /// the guard holds back.
+    fn command(&mut self) -> Call {
+        if self.lent.view().command & BREAK == 0 {
+            return Call::Write(3, self.draws.of(&[37, 39, 45, 45, 53, 36, 33]));
+        }
+        let value = self.draws.byte();
+        self.call(Call::Write(0, value));
+        Call::Write(3, 37)
+    }
+}
+
+/// A piece of a recording: mark, a good frame, a frame of the other parity, a
+/// frame with one level turned over, a frame broken off, half a start bit, a long
+/// space, or noise.
+fn piece(draws: &mut Draws, format: &Format) -> Vec<u8> {
+    let mut levels = frame(format, draws.byte());
+    let length = format.frame_length();
+    match draws.below(10) {
+        0 => levels = vec![true; draws.between(1, 2 * format.factor) as usize],
+        1..=4 => {}
+        5 => {
+            let even = !format.even;
+            levels = frame(&Format { even, ..*format }, draws.byte());
+        }
+        6 => {
+            let at = draws.below(length) as usize;
+            levels[at] = !levels[at];
+        }
+        7 => levels.truncate(draws.below(length) as usize),
+        8 => {
+            levels = vec![false; draws.between(1, format.half() + 1) as usize];
+            levels.push(true);
+        }
+        _ => levels = noise(draws, format),
+    }
+    numbers(levels)
+}
+
+fn numbers(levels: Vec<bool>) -> Vec<u8> {
+    levels.into_iter().map(u8::from).collect()
+}
+
+fn noise(draws: &mut Draws, format: &Format) -> Vec<bool> {
+    if draws.one_in(2) {
+        return vec![false; format.frame_length() as usize + 1];
+    }
+    let count = draws.between(1, format.factor + 8);
+    (0..count).map(|_| draws.one_in(2)).collect()
+}

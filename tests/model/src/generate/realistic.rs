@@ -1,0 +1,166 @@
+//! A bench at work: both ends set up, characters written when they may be, reads
+//! mostly in time; now and then a break, a short pulse, a pin, a reset, or
+//! another mode at one end.
+
+use super::{accepted_mode, other, Script, UNITS};
+use crate::chip::{decode, INTERNAL_RECEIVE_CLOCK, INTERNAL_TRANSMIT_CLOCK};
+use crate::draw::Draws;
+use crate::session::{Record, Unit};
+use crate::Format;
+
+/// Joined ticks of a session, more or less, and steps at most.
+const TICKS: u32 = 4000;
+const STEPS: u32 = 40;
+
+/// Transmit, DTR, receive and RTS ("Registers").
+const COMMAND: u8 = 39;
+const BREAK: u8 = 8;
+const RESET_ERROR: u8 = 16;
+
+pub fn session(draws: &mut Draws, index: u32) -> Vec<u8> {
+    let mut script = Script::new();
+    let mode = accepted_mode(index);
+    let mode2 = mode2(draws);
+    set_up(&mut script, Unit::A, mode, mode2);
+    // Unequal ends in one session of three.
+    if draws.one_in(3) {
+        set_up(&mut script, Unit::B, accepted_mode(draws.below(144)), mode2);
+    } else {
+        set_up(&mut script, Unit::B, mode, mode2);
+    }
+    script.tick(1);
+    for _ in 0..STEPS {
+        if script.ticks > TICKS {
+            break;
+        }
+        step(&mut script, draws);
+    }
+    for unit in UNITS {
+        look(&mut script, unit);
+    }
+    script.into_bytes()
+}
+
+/// Both clocks external in one half of the cases, so that all factors are used.
+fn mode2(draws: &mut Draws) -> u8 {
+    let clocks = INTERNAL_TRANSMIT_CLOCK + INTERNAL_RECEIVE_CLOCK;
+    if draws.one_in(2) {
+        draws.byte() & !clocks
+    } else {
+        draws.byte()
+    }
+}
+
+fn set_up(script: &mut Script, unit: Unit, mode1: u8, mode2: u8) {
+    script.write(unit, 2, mode1);
+    script.write(unit, 2, mode2);
+    script.write(unit, 3, COMMAND);
+    script.pins(unit, [0, 0, 0]);
+}
+
+fn step(script: &mut Script, draws: &mut Draws) {
+    let unit = draws.of(&UNITS);
+    match draws.below(32) {
+        0..=11 => exchange(script, draws, unit),
+        12..=15 => wait(script, draws, unit),
+        16..=21 => look(script, unit),
+        22 => send_break(script, draws, unit),
+        23..=24 => short_pulse(script, draws, unit),
+        25 => pin(script, draws, unit),
+        26 => script.write(unit, 3, COMMAND | RESET_ERROR),
+        27 => start_again(script, draws, unit),
+        28 => another_mode(script, draws, unit),
+        29 => switch_off(script, draws, unit),
+        30 => script.write(unit, 1, draws.byte()),
+        _ => script.read(unit, draws.of(&[2, 2, 3])),
+    }
+}
+
+/// The format that `unit` sends in; one of the rest where no mode is set.
+fn format(script: &mut Script, unit: Unit) -> Format {
+    let view = script.pair.chip(unit).view();
+    let internal = view.mode2 & INTERNAL_TRANSMIT_CLOCK != 0;
+    decode(view.mode1.unwrap_or(accepted_mode(0)), internal)
+}
+
+/// A character, some time, and most often a look at the other end.
+fn exchange(script: &mut Script, draws: &mut Draws, unit: Unit) {
+    if script.may_write(unit) || draws.one_in(16) {
+        script.write(unit, 0, draws.byte());
+    }
+    wait(script, draws, unit);
+    if !draws.one_in(4) {
+        look(script, other(unit));
+    }
+}
+
+/// A sensible portion of ticks: a bit, a character, a frame, or some part of one.
+fn wait(script: &mut Script, draws: &mut Draws, unit: Unit) {
+    let format = format(script, unit);
+    let (length, stop) = (format.frame_length(), format.stop_sample());
+    let any = draws.between(1, length);
+    let portion = draws.of(&[1, format.factor, stop, stop + 1, length, length, any, any]);
+    script.tick(portion);
+}
+
+/// The status, and what has come.
+fn look(script: &mut Script, unit: Unit) {
+    script.read(unit, 1);
+    if script.unread(unit) {
+        script.read(unit, 0);
+    }
+}
+
+/// A break of up to three frames; a character may wait behind it.
+fn send_break(script: &mut Script, draws: &mut Draws, unit: Unit) {
+    let length = format(script, unit).frame_length();
+    script.write(unit, 3, COMMAND | BREAK);
+    script.tick(draws.between(1, 3 * length));
+    if draws.one_in(2) {
+        script.write(unit, 0, draws.byte());
+    }
+    script.write(unit, 3, COMMAND);
+    script.tick(draws.between(1, length));
+}
+
+/// A break about as long as half a bit: a false start, or just not ("Receiving").
+fn short_pulse(script: &mut Script, draws: &mut Draws, unit: Unit) {
+    let half = format(script, unit).half();
+    script.write(unit, 3, COMMAND | BREAK);
+    script.tick(draws.between(1, half + 1));
+    script.write(unit, 3, COMMAND);
+    script.tick(draws.between(half, 4 * half + 4));
+}
+
+/// One pin high for some time.
+fn pin(script: &mut Script, draws: &mut Draws, unit: Unit) {
+    script.pins(unit, draws.of(&[[1, 0, 0], [0, 1, 0], [0, 0, 1]]));
+    wait(script, draws, unit);
+    script.read(unit, 1);
+    script.pins(unit, [0, 0, 0]);
+}
+
+fn start_again(script: &mut Script, draws: &mut Draws, unit: Unit) {
+    let view = script.pair.chip(unit).view();
+    script.add(Record::Reset(unit));
+    if !draws.one_in(4) {
+        set_up(script, unit, view.mode1.unwrap_or(78), view.mode2);
+    }
+}
+
+/// Another mode 1 at this end only; the command read puts the pointer back.
+fn another_mode(script: &mut Script, draws: &mut Draws, unit: Unit) {
+    script.read(unit, 3);
+    script.write(unit, 2, accepted_mode(draws.below(144)));
+    if draws.one_in(2) {
+        script.write(unit, 2, mode2(draws));
+    }
+}
+
+/// Transmit or receive off for some time.
+fn switch_off(script: &mut Script, draws: &mut Draws, unit: Unit) {
+    script.write(unit, 3, COMMAND & !draws.of(&[1, 4]));
+    wait(script, draws, unit);
+    script.read(unit, 1);
+    script.write(unit, 3, COMMAND);
+}

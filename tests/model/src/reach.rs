@@ -1,0 +1,341 @@
+//! What the random runs reached, counted by name on the model's chips. A run in
+//! which one of its names stays at 0 has not tested what it is for.
+
+use crate::calls::{Call, Garbage, Lent, Line};
+use crate::chip::{decode, Chip, View, INTERNAL_RECEIVE_CLOCK, INTERNAL_TRANSMIT_CLOCK};
+use crate::generate::{accepted_mode, ACCEPTED_MODES};
+use crate::session::{lines, Bench, Pair, Record, Unit};
+use crate::Format;
+
+// The error flags in the status ("Registers").
+const FLAGS: [(u8, &str); 3] = [(8, "parity flag"), (16, "overrun"), (32, "framing flag")];
+
+/// What every run of chips has to reach.
+const OF_CHIPS: [&str; 27] = [
+    "internal transmit clock",
+    "external transmit clock",
+    "internal receive clock",
+    "external receive clock",
+    "mode write inside a frame sent",
+    "mode write inside a frame received",
+    "command write inside a frame sent",
+    "command write inside a frame received",
+    "reset inside a frame sent",
+    "reset inside a frame received",
+    "break",
+    "guard",
+    "pin change of DSR",
+    "pin change of DCD",
+    "pin change of CTS",
+    "short pulse",
+    "overrun",
+    "parity flag",
+    "framing flag",
+    "empty-mark",
+    "change-mark",
+    "arrival",
+    "refusal 1",
+    "refusal 2",
+    "refusal 3",
+    "refusal 4",
+    "refusal 5",
+];
+
+/// What only sessions can reach.
+const OF_SESSIONS: [&str; 8] = [
+    "unequal modes",
+    "refusal 6",
+    "refusal 7",
+    "line of 63 bytes",
+    "line of 64 bytes",
+    "line of 65 bytes",
+    "line of 66 bytes",
+    "missing last newline",
+];
+
+/// A call refused on a device out of range, whose bytes then stay.
+const REFUSED: &str = "refused";
+
+pub struct Reach {
+    counts: Vec<(String, u64)>,
+    /// The values of mode 1 that a frame was sent with, and a character received.
+    sent: [bool; 256],
+    received: [bool; 256],
+}
+
+impl Reach {
+    pub fn of_sessions() -> Reach {
+        Reach::of(OF_SESSIONS.map(String::from).to_vec())
+    }
+
+    pub fn of_calls() -> Reach {
+        let mut names: Vec<String> = Call::NAMES.map(String::from).to_vec();
+        for garbage in Garbage::ALL {
+            names.extend(Call::NAMES.map(|call| on_garbage(garbage, call)));
+            names.push(on_garbage(garbage, REFUSED));
+        }
+        Reach::of(names)
+    }
+
+    fn of(further: Vec<String>) -> Reach {
+        let names = OF_CHIPS.map(String::from).into_iter().chain(further);
+        Reach {
+            counts: names.map(|name| (name, 0)).collect(),
+            sent: [false; 256],
+            received: [false; 256],
+        }
+    }
+
+    fn count(&mut self, name: &str) {
+        let counted = self.counts.iter_mut().find(|(known, _)| known == name);
+        counted.expect("a name of the list").1 += 1;
+    }
+
+    /// Adds what another reached, whose names are the same.
+    pub fn add(&mut self, other: &Reach) {
+        for (mine, theirs) in self.counts.iter_mut().zip(&other.counts) {
+            mine.1 += theirs.1;
+        }
+        for value in 0..256 {
+            self.sent[value] |= other.sent[value];
+            self.received[value] |= other.received[value];
+        }
+    }
+
+    /// A line for each count, and whether all was reached.
+    pub fn report(&self) -> (String, bool) {
+        let mut text = String::new();
+        let mut whole = true;
+        for (way, seen) in [("sent", &self.sent), ("received", &self.received)] {
+            let modes = (0..ACCEPTED_MODES).map(accepted_mode);
+            let missing: Vec<u8> = modes.filter(|&mode| !seen[usize::from(mode)]).collect();
+            let there = ACCEPTED_MODES as usize - missing.len();
+            text += &format!("mode 1 {way}: {there} of {ACCEPTED_MODES} values\n");
+            if !missing.is_empty() {
+                text += &format!("mode 1 {way}: MISSING {missing:?}\n");
+                whole = false;
+            }
+        }
+        for (name, count) in &self.counts {
+            let note = if *count == 0 { " MISSING" } else { "" };
+            text += &format!("{name}: {count}{note}\n");
+            whole &= *count > 0;
+        }
+        (text, whole)
+    }
+
+    /// A transmit tick ("Sending").
+    fn transmitted(&mut self, before: &View, after: &View) {
+        if after.sending && !before.sending {
+            let clock = before.mode2 & INTERNAL_TRANSMIT_CLOCK != 0;
+            self.count(if clock {
+                "internal transmit clock"
+            } else {
+                "external transmit clock"
+            });
+            self.sent[usize::from(before.mode1.expect("a mode"))] = true;
+        }
+        // A break sets the guard anew at each of its ticks.
+        if after.guard > 0 && after.guard >= before.guard {
+            self.count("break");
+        }
+        // Only a character that waits shows that there is a guard.
+        if after.guard < before.guard && before.waiting {
+            self.count("guard");
+        }
+        if after.empty_mark && !before.empty_mark {
+            self.count("empty-mark");
+        }
+    }
+
+    /// A receive tick ("Receiving"). Whether a character arrived.
+    fn received(&mut self, before: &View, after: &View) -> bool {
+        let Some((format, samples)) = before.hearing.filter(|_| before.listening) else {
+            return false;
+        };
+        if samples == format.stop_sample() as usize {
+            self.arrived(&format, before, after);
+            return true;
+        }
+        if after.hearing.is_none() {
+            self.count("short pulse");
+        }
+        false
+    }
+
+    fn arrived(&mut self, format: &Format, before: &View, after: &View) {
+        self.count("arrival");
+        let mode1 = before.mode1.expect("a mode");
+        let clock = before.mode2 & INTERNAL_RECEIVE_CLOCK != 0;
+        // Not where the modes were written since tick 0.
+        if decode(mode1, clock) == *format {
+            self.count(if clock {
+                "internal receive clock"
+            } else {
+                "external receive clock"
+            });
+            self.received[usize::from(mode1)] = true;
+        }
+        for (bit, name) in FLAGS {
+            if after.status & !before.status & bit != 0 {
+                self.count(name);
+            }
+        }
+    }
+
+    /// A write that is done.
+    fn written(&mut self, address: u8, before: &View) {
+        match address {
+            2 => self.inside("mode write", before),
+            3 => self.inside("command write", before),
+            _ => {}
+        }
+    }
+
+    fn reset(&mut self, before: &View) {
+        self.inside("reset", before);
+    }
+
+    fn inside(&mut self, what: &str, before: &View) {
+        if before.sending {
+            self.count(&format!("{what} inside a frame sent"));
+        }
+        if before.hearing.is_some() {
+            self.count(&format!("{what} inside a frame received"));
+        }
+    }
+
+    /// New levels at the pins.
+    fn pinned(&mut self, before: &View, after: &View) {
+        for (pin, name) in ["DSR", "DCD", "CTS"].iter().enumerate() {
+            if before.pins[pin] != after.pins[pin] {
+                self.count(&format!("pin change of {name}"));
+            }
+        }
+        if after.change_mark && !before.change_mark {
+            self.count("change-mark");
+        }
+    }
+
+    /// The text of a session and its answer.
+    pub fn session(&mut self, input: &[u8], answer: &[u8]) {
+        for line in lines(input).filter(|line| (63..=66).contains(&line.len())) {
+            self.count(&format!("line of {} bytes", line.len()));
+        }
+        if input.last().is_some_and(|&byte| byte != b'\n') {
+            self.count("missing last newline");
+        }
+        for line in String::from_utf8_lossy(answer).lines() {
+            if let ["E", _, number] = line.split('\t').collect::<Vec<_>>()[..] {
+                self.count(&format!("refusal {number}"));
+            }
+        }
+    }
+
+    /// A run of calls, made on the model.
+    pub fn run(&mut self, lines: &[Line]) {
+        let mut lent = Lent::InRange(Chip::just_reset());
+        let mut garbage = None;
+        for line in lines {
+            if let Line::Call(call) = line {
+                let before = lent.view();
+                let (refusal, _) = lent.call(call);
+                self.count(call.name());
+                self.called(call, refusal, &before, &lent.view());
+                if let Some(garbage) = garbage {
+                    self.called_first(garbage, call, refusal);
+                }
+            } else {
+                lent.answer(line);
+            }
+            garbage = match line {
+                Line::Device(garbage, _) => Some(*garbage),
+                _ => None,
+            };
+        }
+    }
+
+    /// The first call on a device out of range.
+    fn called_first(&mut self, garbage: Garbage, call: &Call, refusal: u8) {
+        self.count(&on_garbage(garbage, call.name()));
+        if refusal != 0 {
+            self.count(&on_garbage(garbage, REFUSED));
+        }
+    }
+
+    fn called(&mut self, call: &Call, refusal: u8, before: &View, after: &View) {
+        if refusal != 0 {
+            return self.count(&format!("refusal {refusal}"));
+        }
+        match *call {
+            Call::Reset => self.reset(before),
+            Call::Write(address, _) => self.written(address, before),
+            Call::Pins(_) => self.pinned(before, after),
+            Call::Transmit => self.transmitted(before, after),
+            Call::Receive(_) => {
+                self.received(before, after);
+            }
+            Call::Read(_) | Call::Outputs => {}
+        }
+    }
+}
+
+fn on_garbage(garbage: Garbage, call: &str) -> String {
+    format!("device of {}: {call}", garbage.name())
+}
+
+/// A pair of chips that is watched.
+pub struct Watched<'a> {
+    pub pair: Pair,
+    pub reach: &'a mut Reach,
+}
+
+impl Watched<'_> {
+    fn views(&self) -> [View; 2] {
+        [self.pair.a.view(), self.pair.b.view()]
+    }
+
+    fn tick(&mut self) -> Result<String, u8> {
+        let before = self.views();
+        let answer = self.pair.act(Record::JoinedTicks(1));
+        let after = self.views();
+        for (near, far) in [(0, 1), (1, 0)] {
+            self.reach.transmitted(&before[near], &after[near]);
+            let arrived = self.reach.received(&before[near], &after[near]);
+            if arrived && unequal(&before[far], &before[near]) {
+                self.reach.count("unequal modes");
+            }
+        }
+        answer
+    }
+}
+
+/// Whether a character is sent in another format than it is heard in; the stop
+/// length, of which one sample is heard, has no part in it.
+fn unequal(sender: &View, hearer: &View) -> bool {
+    let (Some(mode1), Some((heard, _))) = (sender.mode1, hearer.hearing) else {
+        return false;
+    };
+    let mut sent = decode(mode1, sender.mode2 & INTERNAL_TRANSMIT_CLOCK != 0);
+    sent.stop = heard.stop;
+    sender.sending && sent != heard
+}
+
+impl Bench for Watched<'_> {
+    fn act(&mut self, record: Record) -> Result<String, u8> {
+        let index = |unit: Unit| usize::from(unit == Unit::B);
+        let before = self.views();
+        if let Record::JoinedTicks(count) = record {
+            return (0..count).map(|_| self.tick()).collect();
+        }
+        let answer = self.pair.act(record)?;
+        let after = self.views();
+        match record {
+            Record::Write(unit, address, _) => self.reach.written(address, &before[index(unit)]),
+            Record::Pins(unit, _) => self.reach.pinned(&before[index(unit)], &after[index(unit)]),
+            Record::Reset(unit) => self.reach.reset(&before[index(unit)]),
+            Record::Read(..) | Record::JoinedTicks(_) => {}
+        }
+        Ok(answer)
+    }
+}
