@@ -103,7 +103,7 @@ impl fmt::Display for Line {
     }
 }
 
-pub fn hexadecimal(bytes: &[u8]) -> String {
+fn hexadecimal(bytes: &[u8]) -> String {
     bytes.iter().map(|byte| format!("{byte:02x}")).collect()
 }
 
@@ -111,7 +111,7 @@ pub fn hexadecimal(bytes: &[u8]) -> String {
 pub enum Lent {
     InRange(Chip),
     /// It is taken as one just reset ("Refusal numbers").
-    OutOfRange(Garbage, [u8; DEVICE_BYTES]),
+    OutOfRange([u8; DEVICE_BYTES]),
 }
 
 impl Lent {
@@ -120,13 +120,13 @@ impl Lent {
     pub fn answer(&mut self, line: &Line) -> Option<String> {
         match line {
             Line::Call(call) => Some(numbers(&self.call(call).1)),
-            Line::Device(garbage, bytes) => {
-                *self = Lent::OutOfRange(*garbage, *bytes);
+            Line::Device(_, bytes) => {
+                *self = Lent::OutOfRange(*bytes);
                 Some("0".to_string())
             }
             Line::Bytes => match self {
                 Lent::InRange(_) => None,
-                Lent::OutOfRange(_, bytes) => Some(hexadecimal(bytes)),
+                Lent::OutOfRange(bytes) => Some(hexadecimal(bytes)),
             },
         }
     }

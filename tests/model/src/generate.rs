@@ -48,6 +48,10 @@ pub fn accepted_mode(index: u32) -> u8 {
     (64 * (1 + stop) + 4 * middle + 1 + factor) as u8
 }
 
+fn any_mode(draws: &mut Draws) -> u8 {
+    accepted_mode(draws.below(ACCEPTED_MODES))
+}
+
 const UNITS: [Unit; 2] = [Unit::A, Unit::B];
 
 fn other(unit: Unit) -> Unit {
@@ -110,7 +114,7 @@ impl Script {
         }
     }
 
-    /// The status without the mark that a status read would clear.
+    /// The status, which no read clears here.
     fn status(&mut self, unit: Unit) -> u8 {
         self.pair.chip(unit).view().status
     }

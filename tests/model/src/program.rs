@@ -7,14 +7,15 @@ use std::sync::mpsc;
 use std::thread;
 use std::time::{Duration, Instant};
 
-/// A program that takes longer is ended.
+/// Far longer than any session or run of calls takes, under an emulator too.
 const LIMIT: Duration = Duration::from_secs(20);
 /// More output than any right answer has.
 const MOST_OUTPUT: u64 = 64 << 20;
 
-/// The words of a command.
+/// The words of a command, and the time that it may take.
 pub struct Program {
-    words: Vec<String>,
+    pub words: Vec<String>,
+    pub limit: Duration,
 }
 
 impl Program {
@@ -27,7 +28,8 @@ impl Program {
         if words.is_empty() {
             return Err("usage: -- PROGRAM ARGUMENT..".to_string());
         }
-        Ok(Program { words })
+        let limit = LIMIT;
+        Ok(Program { words, limit })
     }
 
     /// The whole output for `input`, or why there is none that counts.
@@ -39,9 +41,10 @@ impl Program {
             .stderr(Stdio::null())
             .spawn()
             .map_err(|error| format!("{} does not start: {error}", self.words[0]))?;
-        let (status, output) = exchange(&mut child, input).map_err(|error| error.to_string())?;
+        let (status, output) =
+            exchange(&mut child, input, self.limit).map_err(|error| error.to_string())?;
         match status {
-            None => Err(format!("it took over {} s and was ended", LIMIT.as_secs())),
+            None => Err(format!("it took over {:?} and was ended", self.limit)),
             Some(status) if !status.success() => Err(format!("it ended with {status}")),
             Some(_) => Ok(output),
         }
@@ -50,8 +53,12 @@ impl Program {
 
 /// Writes and reads at the same time, since a pipe holds a small part only. The
 /// status is that of `end`.
-fn exchange(child: &mut Child, input: &[u8]) -> io::Result<(Option<ExitStatus>, Vec<u8>)> {
-    let until = Instant::now() + LIMIT;
+fn exchange(
+    child: &mut Child,
+    input: &[u8],
+    limit: Duration,
+) -> io::Result<(Option<ExitStatus>, Vec<u8>)> {
+    let until = Instant::now() + limit;
     let mut stdin = child.stdin.take().expect("piped");
     let stdout = child.stdout.take().expect("piped");
     let (sender, receiver) = mpsc::channel();
@@ -64,7 +71,7 @@ fn exchange(child: &mut Child, input: &[u8]) -> io::Result<(Option<ExitStatus>, 
             // Nobody waits for it any more where the time is over.
             let _ = sender.send(read.map(|_| output));
         });
-        let output = receiver.recv_timeout(LIMIT).unwrap_or(Ok(Vec::new()));
+        let output = receiver.recv_timeout(limit).unwrap_or(Ok(Vec::new()));
         Ok((end(child, until)?, output?))
     })
 }

@@ -6,6 +6,7 @@ use crate::chip::{decode, Chip, View, INTERNAL_RECEIVE_CLOCK, INTERNAL_TRANSMIT_
 use crate::generate::{accepted_mode, ACCEPTED_MODES};
 use crate::session::{lines, Bench, Pair, Record, Unit};
 use crate::Format;
+use std::process::ExitCode;
 
 // The error flags in the status ("Registers").
 const FLAGS: [(u8, &str); 3] = [(8, "parity flag"), (16, "overrun"), (32, "framing flag")];
@@ -122,6 +123,17 @@ impl Reach {
             whole &= *count > 0;
         }
         (text, whole)
+    }
+
+    /// Prints the counts. A run that did not reach all has failed.
+    pub fn conclude(&self) -> ExitCode {
+        let (report, whole) = self.report();
+        print!("{report}");
+        if whole {
+            return ExitCode::SUCCESS;
+        }
+        println!("what is MISSING was not reached");
+        ExitCode::FAILURE
     }
 
     /// A transmit tick ("Sending").

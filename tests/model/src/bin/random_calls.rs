@@ -58,13 +58,7 @@ fn main() -> ExitCode {
             .filter(|line| matches!(line, Line::Call(_)))
             .count();
     }
-    let (report, whole) = reach.report();
-    print!("{report}");
+    println!("random_calls: {RUNS} runs are answered alike");
     println!("calls: {calls}");
-    println!("random_calls: {RUNS} runs, all alike");
-    if whole {
-        return ExitCode::SUCCESS;
-    }
-    println!("random_calls: what is MISSING was not reached");
-    ExitCode::FAILURE
+    reach.conclude()
 }

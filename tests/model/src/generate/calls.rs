@@ -2,7 +2,7 @@
 //! transmit and receive ticks; the levels received are frames, good and damaged,
 //! short pulses and noise, or what was sent.
 
-use super::{accepted_mode, ACCEPTED_MODES};
+use super::{accepted_mode, any_mode, ACCEPTED_MODES};
 use crate::calls::{Call, Garbage, Lent, Line, DEVICE_BYTES};
 use crate::chip::{decode, Chip, INTERNAL_RECEIVE_CLOCK};
 use crate::draw::Draws;
@@ -81,7 +81,7 @@ impl Run<'_> {
             Call::Reset,
             Call::Read(self.draws.below(4) as u8),
             Call::Read(address),
-            Call::Write(2, accepted_mode(self.draws.below(ACCEPTED_MODES))),
+            Call::Write(2, any_mode(self.draws)),
             Call::Write(self.draws.below(2) as u8, value),
             Call::Write(address, value),
             Call::Write(2, value & 63),
@@ -187,7 +187,7 @@ impl Run<'_> {
         let call = match self.draws.below(16) {
             0 => Call::Reset,
             1..=2 => Call::Write(2, self.draws.byte()),
-            3..=4 => Call::Write(2, accepted_mode(self.draws.below(ACCEPTED_MODES))),
+            3..=4 => Call::Write(2, any_mode(self.draws)),
             5 => Call::Write(3, self.draws.byte()),
             6..=8 => self.command(),
             9..=10 => Call::Pins([(); 3].map(|()| self.draws.of(&[0, 0, 0, 1]))),

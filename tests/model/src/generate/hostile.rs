@@ -1,6 +1,6 @@
 //! Any number at any time: what no bench would do, with frames under way.
 
-use super::{accepted_mode, Script, UNITS};
+use super::{accepted_mode, any_mode, Script, UNITS};
 use crate::draw::Draws;
 use crate::session::{Record, Unit};
 
@@ -52,7 +52,7 @@ fn mode(draws: &mut Draws) -> u8 {
     if draws.one_in(3) {
         draws.byte()
     } else {
-        accepted_mode(draws.below(144))
+        any_mode(draws)
     }
 }
 

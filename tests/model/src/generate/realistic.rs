@@ -2,7 +2,7 @@
 //! mostly in time; now and then a break, a short pulse, a pin, a reset, or
 //! another mode at one end.
 
-use super::{accepted_mode, other, Script, UNITS};
+use super::{accepted_mode, any_mode, other, Script, UNITS};
 use crate::chip::{decode, INTERNAL_RECEIVE_CLOCK, INTERNAL_TRANSMIT_CLOCK};
 use crate::draw::Draws;
 use crate::session::{Record, Unit};
@@ -24,7 +24,7 @@ pub fn session(draws: &mut Draws, index: u32) -> Vec<u8> {
     set_up(&mut script, Unit::A, mode, mode2);
     // Unequal ends in one session of three.
     if draws.one_in(3) {
-        set_up(&mut script, Unit::B, accepted_mode(draws.below(144)), mode2);
+        set_up(&mut script, Unit::B, any_mode(draws), mode2);
     } else {
         set_up(&mut script, Unit::B, mode, mode2);
     }
@@ -76,7 +76,7 @@ fn step(script: &mut Script, draws: &mut Draws) {
     }
 }
 
-/// The format that `unit` sends in; one of the rest where no mode is set.
+/// The format that `unit` sends in; any where no mode is set.
 fn format(script: &mut Script, unit: Unit) -> Format {
     let view = script.pair.chip(unit).view();
     let internal = view.mode2 & INTERNAL_TRANSMIT_CLOCK != 0;
@@ -144,14 +144,19 @@ fn start_again(script: &mut Script, draws: &mut Draws, unit: Unit) {
     let view = script.pair.chip(unit).view();
     script.add(Record::Reset(unit));
     if !draws.one_in(4) {
-        set_up(script, unit, view.mode1.unwrap_or(78), view.mode2);
+        set_up(
+            script,
+            unit,
+            view.mode1.unwrap_or(accepted_mode(0)),
+            view.mode2,
+        );
     }
 }
 
 /// Another mode 1 at this end only; the command read puts the pointer back.
 fn another_mode(script: &mut Script, draws: &mut Draws, unit: Unit) {
     script.read(unit, 3);
-    script.write(unit, 2, accepted_mode(draws.below(144)));
+    script.write(unit, 2, any_mode(draws));
     if draws.one_in(2) {
         script.write(unit, 2, mode2(draws));
     }

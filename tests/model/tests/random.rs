@@ -1,0 +1,391 @@
+//! The random tests themselves: wrong benches and wrong drivers are found within
+//! the fixed seeds, and what is shown of them is short.
+
+use model::calls::{difference, numbers, shortest, Call, Lent, Line};
+use model::chip::{Chip, View};
+use model::generate::calls::{run, RUNS};
+use model::generate::{alike, session, Kind, KINDS, SESSIONS};
+use model::program::Program;
+use model::reach::Reach;
+use model::session::{answer, answer_on, Bench, Pair, Record};
+use model::shorten::{self, shorten, smaller};
+use std::time::Duration;
+
+// Shortening.
+
+#[test]
+fn pieces_are_dropped_until_no_single_one_can_be() {
+    let both = |pieces: &[u32]| pieces.contains(&3) && pieces.contains(&77);
+    let all: Vec<u32> = (0..100).collect();
+    assert_eq!(shorten(all, |_| Vec::new(), both), [3, 77]);
+}
+
+#[test]
+fn a_piece_that_a_simpler_one_makes_needless_is_dropped() {
+    // The second piece has to be at least the first.
+    let falls = |pieces: &[u32]| {
+        let first = pieces.first().copied().unwrap_or(0);
+        pieces
+            .last()
+            .is_some_and(|&last| last >= 5 && last >= first)
+    };
+    assert_eq!(shorten(vec![900, 1000], |&n| smaller(n), falls), [5]);
+}
+
+#[test]
+fn smaller_numbers_begin_with_0_and_end_with_one_less() {
+    assert_eq!(smaller(0), []);
+    assert_eq!(smaller(1), [0]);
+    assert_eq!(smaller(100), [0, 50, 75, 88, 94, 97, 99]);
+}
+
+#[test]
+fn counts_and_bytes_of_a_session_are_shortened() {
+    let differs = |input: &[u8]| {
+        let text = String::from_utf8_lossy(input);
+        let counts = text
+            .lines()
+            .filter_map(|line| line.strip_prefix("L\t")?.parse::<u32>().ok());
+        counts.sum::<u32>() >= 41
+    };
+    let input = b"R\tA\t1\nL\t65535\nL\t900\nxyz\nW\tB\t2\t77\n";
+    assert_eq!(shorten::session(input, differs), b"L\t41\n");
+    let longest = |input: &[u8]| input.len() >= 10;
+    assert_eq!(shorten::session(b"abc\nabcdefghijklmno", longest).len(), 10);
+}
+
+// Wrong session programs.
+
+/// What is wrong with a bench: it is given each chip before a joined tick.
+type Fault = fn(&mut Chip);
+
+struct Wrong {
+    pair: Pair,
+    before_tick: Fault,
+}
+
+impl Bench for Wrong {
+    fn act(&mut self, record: Record) -> Result<String, u8> {
+        let Record::JoinedTicks(count) = record else {
+            return self.pair.act(record);
+        };
+        for _ in 0..count {
+            (self.before_tick)(&mut self.pair.a);
+            (self.before_tick)(&mut self.pair.b);
+            self.pair.act(Record::JoinedTicks(1))?;
+        }
+        Ok(String::new())
+    }
+}
+
+fn wrong_answer(before_tick: Fault, input: &[u8]) -> Vec<u8> {
+    let pair = Pair::just_reset();
+    answer_on(&mut Wrong { pair, before_tick }, input)
+}
+
+/// The shortest session that shows that `wrong` is not `answer`, from the first
+/// one of `kind` that does.
+fn found(kind: Kind, wrong: impl Fn(&[u8]) -> Vec<u8>) -> Vec<u8> {
+    let differs = |input: &[u8]| wrong(input) != answer(input);
+    let mut sessions = (0..SESSIONS).map(|index| session(kind, index));
+    let first = sessions.find(|input| differs(input)).expect("a difference");
+    shorten::session(&first, differs)
+}
+
+fn lines(session: &[u8]) -> usize {
+    model::session::lines(session).count()
+}
+
+/// Whether a character comes with the next receive tick.
+fn comes_next(view: &View) -> bool {
+    let last = |(format, samples): (model::Format, usize)| samples == format.stop_sample() as usize;
+    view.listening && view.hearing.is_some_and(last)
+}
+
+/// Without an unread character there is no overrun.
+fn never_overruns(chip: &mut Chip) {
+    if comes_next(&chip.view()) {
+        chip.read(0);
+    }
+}
+
+/// "Easy ways to get it wrong": the flags fall when a good character comes. Here
+/// they fall before every character, and a bad one sets them again.
+fn a_good_character_clears_flags(chip: &mut Chip) {
+    let view = chip.view();
+    if comes_next(&view) {
+        chip.write(3, view.command | 16);
+    }
+}
+
+/// A break that has no guard behind it.
+fn no_guard(chip: &mut Chip) {
+    while chip.view().guard > 0 && chip.view().command & 8 == 0 {
+        chip.transmit();
+    }
+}
+
+// The modes, commands and pins of both ends, a character, ticks and a status are
+// nine lines; a second character after the first makes them eleven.
+
+#[test]
+fn a_bench_that_never_overruns_is_found() {
+    let shortest = found(Kind::Realistic, |input| wrong_answer(never_overruns, input));
+    assert!(lines(&shortest) <= 9, "{}", shortest.escape_ascii());
+}
+
+#[test]
+fn flags_that_a_good_character_clears_are_found() {
+    let shortest = found(Kind::Realistic, |input| {
+        wrong_answer(a_good_character_clears_flags, input)
+    });
+    assert!(lines(&shortest) <= 11, "{}", shortest.escape_ascii());
+}
+
+#[test]
+fn a_missing_guard_is_found() {
+    let shortest = found(Kind::Hostile, |input| wrong_answer(no_guard, input));
+    assert!(lines(&shortest) <= 9, "{}", shortest.escape_ascii());
+}
+
+/// The answer to a session whose lines are changed first.
+fn answer_to_changed(input: &[u8], change: impl Fn(&[u8]) -> Vec<u8>) -> Vec<u8> {
+    let changed =
+        model::session::lines(input).flat_map(|line| [change(line), b"\n".to_vec()].concat());
+    answer(&changed.collect::<Vec<u8>>())
+}
+
+#[test]
+fn an_overlong_line_counted_as_two_is_found() {
+    // The rest from byte 65 on is taken for a line of its own.
+    let cut = |line: &[u8]| match line.len() {
+        0..=64 => line.to_vec(),
+        _ => [&line[..65], b"\n", &line[64..]].concat(),
+    };
+    let shortest = found(Kind::Malformed, |input| answer_to_changed(input, cut));
+    let lengths: Vec<usize> = model::session::lines(&shortest).map(<[u8]>::len).collect();
+    assert_eq!(lengths, [65]);
+}
+
+#[test]
+fn a_count_of_one_too_many_that_is_taken_is_found() {
+    let taken = |line: &[u8]| match line {
+        b"L\t65536" => b"L\t65535".to_vec(),
+        _ => line.to_vec(),
+    };
+    let shortest = found(Kind::Malformed, |input| answer_to_changed(input, taken));
+    assert_eq!(shortest.trim_ascii_end(), b"L\t65536");
+}
+
+/// A command that leaves receive off drops the character under way ("Receiving").
+fn loses_characters(chip: &mut Chip) {
+    let view = chip.view();
+    if comes_next(&view) {
+        chip.write(3, view.command & !4);
+        chip.write(3, view.command);
+    }
+}
+
+#[test]
+fn every_right_answer_meets_demand_3() {
+    for input in (0..SESSIONS).map(|index| session(Kind::Alike, index)) {
+        assert_eq!(alike::fault(&input, &answer(&input)), None);
+    }
+}
+
+#[test]
+fn what_breaks_demand_3_is_seen_without_a_second_answer() {
+    let input = session(Kind::Alike, 0);
+    let right = String::from_utf8(answer(&input)).unwrap();
+    let broken = |answer: &[u8]| alike::fault(&input, answer).is_some();
+    assert!(broken(&wrong_answer(loses_characters, &input)));
+    let read = right
+        .lines()
+        .find(|line| line.starts_with("R\tB\t0"))
+        .unwrap();
+    assert!(broken(right.replacen(read, "R\tB\t0\t256", 1).as_bytes()));
+    let status = right
+        .lines()
+        .find(|line| line.starts_with("R\tB\t1"))
+        .unwrap();
+    assert!(broken(right.replacen(status, "R\tB\t1\t201", 1).as_bytes()));
+    assert!(broken(("E\t1\t6\n".to_string() + &right).as_bytes()));
+}
+
+#[test]
+fn each_seed_gives_one_session_and_no_other() {
+    for kind in KINDS {
+        assert_eq!(session(kind, 7), session(kind, 7));
+        assert_ne!(session(kind, 7), session(kind, 8));
+    }
+}
+
+// Wrong drivers.
+
+/// What is wrong with a driver: the device before a line, and after it.
+struct WrongDriver {
+    before: fn(&mut Lent, &Line),
+    after: fn(&mut Lent, &Line, &mut String),
+}
+
+const RIGHT: WrongDriver = WrongDriver {
+    before: |_, _| {},
+    after: |_, _, _| {},
+};
+
+impl WrongDriver {
+    fn output(&self, lines: &[Line]) -> String {
+        let mut lent = Lent::InRange(Chip::just_reset());
+        let mut output = String::new();
+        for line in lines {
+            (self.before)(&mut lent, line);
+            let mut answer = lent.answer(line).unwrap_or("00".repeat(44));
+            (self.after)(&mut lent, line, &mut answer);
+            output += &(answer + "\n");
+        }
+        output
+    }
+
+    /// The shortest run that shows it, from the first run that does.
+    fn found(&self) -> Vec<Line> {
+        let differs = |lines: &[Line]| difference(lines, &self.output(lines)).is_some();
+        let first = (0..RUNS).map(run).find(|lines| differs(lines));
+        shortest(&first.expect("a difference"), differs)
+    }
+}
+
+/// A device in range in place of one that is not.
+fn mend(lent: &mut Lent) {
+    if let Lent::OutOfRange(..) = lent {
+        *lent = Lent::InRange(Chip::just_reset());
+    }
+}
+
+#[test]
+fn a_right_driver_is_found_right() {
+    for lines in (0..RUNS).step_by(12).map(run) {
+        assert_eq!(difference(&lines, &RIGHT.output(&lines)), None);
+    }
+}
+
+#[test]
+fn answers_too_few_or_too_many_are_found() {
+    let lines = run(0);
+    let output = RIGHT.output(&lines);
+    let without = output.trim_end().rsplit_once('\n').unwrap().0;
+    assert_eq!(difference(&lines, without).unwrap().line, lines.len() - 1);
+    let more = difference(&lines, &(output + "0\n")).unwrap();
+    assert_eq!(more.line, lines.len());
+}
+
+#[test]
+fn a_device_mended_by_a_refused_call_is_found() {
+    let after = |lent: &mut Lent, line: &Line, _: &mut String| {
+        if let Line::Call(Call::Read(4..) | Call::Write(4.., _)) = line {
+            mend(lent);
+        }
+    };
+    let found = WrongDriver { after, ..RIGHT }.found();
+    assert_eq!(found.len(), 3);
+    assert_eq!(found[1..], [Line::Call(Call::Read(4)), Line::Bytes]);
+}
+
+#[test]
+fn a_device_mended_by_a_look_at_the_outputs_is_found() {
+    let after = |lent: &mut Lent, line: &Line, _: &mut String| {
+        if let Line::Call(Call::Outputs) = line {
+            mend(lent);
+        }
+    };
+    let found = WrongDriver { after, ..RIGHT }.found();
+    assert_eq!(found.len(), 3);
+    assert_eq!(found[1..], [Line::Call(Call::Outputs), Line::Bytes]);
+}
+
+#[test]
+fn a_level_that_is_not_refused_is_found() {
+    let after = |_: &mut Lent, line: &Line, answer: &mut String| {
+        if let Line::Call(Call::Receive(_)) = line {
+            *answer = numbers(&[0]);
+        }
+    };
+    let found = WrongDriver { after, ..RIGHT }.found();
+    assert_eq!(found.len(), 2);
+    assert_eq!(found[1], Line::Call(Call::Receive(2)));
+}
+
+#[test]
+fn a_driver_that_never_overruns_is_found() {
+    let before = |lent: &mut Lent, line: &Line| {
+        if let (Lent::InRange(chip), Line::Call(Call::Receive(0..=1))) = (lent, line) {
+            never_overruns(chip);
+        }
+    };
+    let found = WrongDriver { before, ..RIGHT }.found();
+    // Reset, set-up, mark, two frames of six bits with a factor of 1, status.
+    assert!(found.len() <= 22, "{}", model::calls::text(&found));
+}
+
+// The outside program.
+
+fn program(words: &[&str]) -> Program {
+    Program {
+        words: words.iter().map(|word| word.to_string()).collect(),
+        limit: Duration::from_secs(10),
+    }
+}
+
+#[test]
+fn a_program_answers_more_than_a_pipe_holds() {
+    let input = vec![b'x'; 1 << 20];
+    assert_eq!(program(&["cat"]).answer(&input), Ok(input));
+    // Also where it leaves its input unread.
+    let input = vec![b'x'; 1 << 20];
+    assert_eq!(program(&["echo"]).answer(&input), Ok(b"\n".to_vec()));
+}
+
+#[test]
+fn a_program_that_fails_has_no_answer() {
+    let why = |words: &[&str]| program(words).answer(b"").unwrap_err();
+    assert!(why(&["no such program"]).contains("does not start"));
+    assert!(why(&["false"]).contains("exit status: 1"));
+    assert!(why(&["sh", "-c", "kill -9 $$"]).contains("signal: 9"));
+}
+
+#[test]
+fn a_program_that_takes_too_long_is_ended() {
+    for script in ["exec sleep 1000", "exec >&-; exec sleep 1000"] {
+        let mut endless = program(&["sh", "-c", script]);
+        endless.limit = Duration::from_millis(200);
+        assert!(endless
+            .answer(&[b'x'; 1 << 20])
+            .unwrap_err()
+            .contains("took over"));
+    }
+}
+
+// What was reached.
+
+#[test]
+fn what_was_not_reached_is_missing() {
+    for reach in [Reach::of_sessions(), Reach::of_calls()] {
+        let (report, whole) = reach.report();
+        assert!(!whole);
+        assert!(report.contains("mode 1 sent: 0 of 144 values\n"));
+        assert!(report.contains("short pulse: 0 MISSING\n"));
+    }
+}
+
+#[test]
+fn a_false_start_is_reached_and_no_character() {
+    let mut reach = Reach::of_calls();
+    let levels = [[1].as_slice(), &[0; 8], &[1]].concat();
+    let set_up = [Call::Write(2, 78), Call::Write(3, 4), Call::Pins([0, 0, 0])];
+    let calls = set_up
+        .into_iter()
+        .chain(levels.into_iter().map(Call::Receive));
+    reach.run(&calls.map(Line::Call).collect::<Vec<_>>());
+    let (report, _) = reach.report();
+    assert!(report.contains("short pulse: 1\n"), "{report}");
+    assert!(report.contains("arrival: 0 MISSING\n"), "{report}");
+}
