@@ -15,9 +15,6 @@ const LINES: usize = 2800;
 /// The kind in the seeds, behind those of the sessions.
 const KIND: u32 = 4;
 
-/// Force break in the command ("Registers").
-const BREAK: u8 = 8;
-
 /// Transmit ticks and receive ticks of one turn, and whether the level received
 /// is the one that was sent.
 const PROPORTIONS: [(u32, u32, bool); 4] =
@@ -189,7 +186,9 @@ impl Run<'_> {
             1..=2 => Call::Write(2, self.draws.byte()),
             3..=4 => Call::Write(2, any_mode(self.draws)),
             5 => Call::Write(3, self.draws.byte()),
-            6..=8 => self.command(),
+            6 => return self.end_break(),
+            7 => return self.blink(),
+            8 => Call::Write(3, self.draws.of(&[37, 39, 45, 53, 36, 33])),
             9..=10 => Call::Pins([(); 3].map(|()| self.draws.of(&[0, 0, 0, 1]))),
             11 => Call::Pins([(); 3].map(|()| self.draws.of(&[0, 1, 2, 255]))),
             12 => Call::Receive(self.draws.byte()),
@@ -200,15 +199,35 @@ impl Run<'_> {
         self.call(call);
     }
 
-    /// A command that does something; the end of a break, with a character that
-    /// the guard holds back.
-    fn command(&mut self) -> Call {
-        if self.lent.view().command & BREAK == 0 {
-            return Call::Write(3, self.draws.of(&[37, 39, 45, 45, 53, 36, 33]));
-        }
+    /// A break, and a character that its guard holds back; transmit may be off
+    /// for a part of the guard.
+    fn end_break(&mut self) {
+        let factor = self.format().factor;
+        self.call(Call::Write(3, 45));
+        self.transmits(3);
         let value = self.draws.byte();
         self.call(Call::Write(0, value));
-        Call::Write(3, 37)
+        if self.draws.one_in(2) {
+            self.call(Call::Write(3, 36));
+            self.transmits(factor);
+        }
+        self.call(Call::Write(3, 37));
+        self.transmits(factor + 2);
+    }
+
+    /// One to `most` transmit ticks.
+    fn transmits(&mut self, most: u32) {
+        for _ in 0..self.draws.between(1, most) {
+            self.call(Call::Transmit);
+        }
+    }
+
+    /// Receive off and on again with no tick between; RHR gives its character
+    /// again.
+    fn blink(&mut self) {
+        self.call(Call::Write(3, 33));
+        self.call(Call::Write(3, 37));
+        self.call(Call::Read(0));
     }
 }
 

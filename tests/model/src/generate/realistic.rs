@@ -14,6 +14,8 @@ const STEPS: u32 = 40;
 
 /// Transmit, DTR, receive and RTS ("Registers").
 const COMMAND: u8 = 39;
+const TRANSMIT: u8 = 1;
+const RECEIVE: u8 = 4;
 const BREAK: u8 = 8;
 const RESET_ERROR: u8 = 16;
 
@@ -70,9 +72,8 @@ fn step(script: &mut Script, draws: &mut Draws) {
         26 => script.write(unit, 3, COMMAND | RESET_ERROR),
         27 => start_again(script, draws, unit),
         28 => another_mode(script, draws, unit),
-        29 => switch_off(script, draws, unit),
-        30 => script.write(unit, 1, draws.byte()),
-        _ => script.read(unit, draws.of(&[2, 2, 3])),
+        29..=30 => switch_off(script, draws, unit),
+        _ => other_registers(script, draws, unit),
     }
 }
 
@@ -111,16 +112,21 @@ fn look(script: &mut Script, unit: Unit) {
     }
 }
 
-/// A break of up to three frames; a character may wait behind it.
+/// A break of up to three frames; a character may wait behind it, and transmit
+/// may be off for a part of the guard.
 fn send_break(script: &mut Script, draws: &mut Draws, unit: Unit) {
-    let length = format(script, unit).frame_length();
+    let format = format(script, unit);
     script.write(unit, 3, COMMAND | BREAK);
-    script.tick(draws.between(1, 3 * length));
+    script.tick(draws.between(1, 3 * format.frame_length()));
     if draws.one_in(2) {
         script.write(unit, 0, draws.byte());
     }
+    if draws.one_in(2) {
+        script.write(unit, 3, COMMAND & !TRANSMIT);
+        script.tick(draws.between(1, format.factor));
+    }
     script.write(unit, 3, COMMAND);
-    script.tick(draws.between(1, length));
+    script.tick(draws.between(1, format.frame_length()));
 }
 
 /// A break about as long as half a bit: a false start, or just not ("Receiving").
@@ -130,6 +136,15 @@ fn short_pulse(script: &mut Script, draws: &mut Draws, unit: Unit) {
     script.tick(draws.between(1, half + 1));
     script.write(unit, 3, COMMAND);
     script.tick(draws.between(half, 4 * half + 4));
+}
+
+/// SYN1, SYN2 and DLE in turn, the modes in turn, or the command.
+fn other_registers(script: &mut Script, draws: &mut Draws, unit: Unit) {
+    match draws.below(4) {
+        0 => script.write(unit, 1, draws.byte()),
+        1 => script.read(unit, 3),
+        _ => script.read(unit, 2),
+    }
 }
 
 /// One pin high for some time.
@@ -162,10 +177,16 @@ fn another_mode(script: &mut Script, draws: &mut Draws, unit: Unit) {
     }
 }
 
-/// Transmit or receive off for some time.
+/// Transmit or receive off for some time, or for none.
 fn switch_off(script: &mut Script, draws: &mut Draws, unit: Unit) {
-    script.write(unit, 3, COMMAND & !draws.of(&[1, 4]));
-    wait(script, draws, unit);
-    script.read(unit, 1);
+    script.write(unit, 3, COMMAND & !draws.of(&[TRANSMIT, RECEIVE, RECEIVE]));
+    if draws.one_in(2) {
+        wait(script, draws, unit);
+        script.read(unit, 1);
+    }
+    // An empty RHR gives its character again.
+    if draws.one_in(2) {
+        script.read(unit, 0);
+    }
     script.write(unit, 3, COMMAND);
 }
