@@ -16,48 +16,45 @@ const WORKERS: usize = 2;
 /// Shortening ends then with what it has.
 const SHORTENING: Duration = Duration::from_secs(60);
 
-/// A session that failed, and why.
-struct Failure {
-    place: usize,
-    why: String,
-}
-
 /// All sessions in order.
 fn all() -> impl Iterator<Item = (Kind, u32)> {
     let of_kind = |kind| (0..SESSIONS).map(move |index| (kind, index));
     KINDS.into_iter().flat_map(of_kind)
 }
 
-/// What a worker reached, and its first failure.
-fn work(program: &Program, worker: usize) -> (Reach, Option<Failure>) {
+/// What a worker reached, and the place of its first session that fails.
+fn work(program: &Program, worker: usize) -> (Reach, Option<usize>) {
     let mut reach = Reach::of_sessions();
     for (place, (kind, index)) in all().enumerate().skip(worker).step_by(WORKERS) {
-        if let Err(why) = check(program, kind, index, &mut reach) {
-            return (reach, Some(Failure { place, why }));
+        if !passes(program, kind, index, &mut reach) {
+            return (reach, Some(place));
         }
     }
     (reach, None)
 }
 
-fn check(program: &Program, kind: Kind, index: u32, reach: &mut Reach) -> Result<(), String> {
+fn passes(program: &Program, kind: Kind, index: u32, reach: &mut Reach) -> bool {
     let input = session(kind, index);
     let pair = Pair::just_reset();
     let expected = answer_on(&mut Watched { pair, reach }, &input);
     reach.session(&input, &expected);
-    let seed = format!("{kind:?} session of seed {index}");
-    if kind == Kind::Alike {
-        if let Some(fault) = alike::fault(&input, &expected) {
-            return Err(format!("{seed}: the model breaks demand 3: {fault}\n"));
-        }
-    }
-    if program.answer(&input).as_deref() == Ok(&expected) {
-        return Ok(());
-    }
-    Err(format!("{seed}: {}", explain(program, &input)))
+    let delivered = kind != Kind::Alike || alike::fault(&input, &expected).is_none();
+    delivered && program.answer(&input).as_deref() == Ok(&expected)
+}
+
+/// Why a session fails.
+fn explain(program: &Program, kind: Kind, index: u32) -> String {
+    let input = session(kind, index);
+    let fault = |input: &[u8]| alike::fault(input, &answer(input));
+    let why = match (kind == Kind::Alike).then(|| fault(&input)).flatten() {
+        Some(fault) => format!("the model breaks demand 3: {fault}\n"),
+        None => explain_difference(program, &input),
+    };
+    format!("{kind:?} session of seed {index}: {why}")
 }
 
 /// The shortest session that differs, and both answers to it.
-fn explain(program: &Program, input: &[u8]) -> String {
+fn explain_difference(program: &Program, input: &[u8]) -> String {
     let until = Instant::now() + SHORTENING;
     let differs = |input: &[u8]| {
         Instant::now() < until && program.answer(input).as_deref() != Ok(&answer(input))
@@ -102,10 +99,10 @@ fn main() -> ExitCode {
     });
     let mut reach = Reach::of_sessions();
     worked.iter().for_each(|(reached, _)| reach.add(reached));
-    let failures = worked.into_iter().filter_map(|(_, failure)| failure);
-    // The first one, so that two runs say the same.
-    if let Some(failure) = failures.min_by_key(|failure| failure.place) {
-        print!("random_sessions: {}", failure.why);
+    // The first one of all, so that two runs say the same.
+    let failed = worked.iter().filter_map(|(_, place)| *place).min();
+    if let Some((kind, index)) = failed.and_then(|place| all().nth(place)) {
+        print!("random_sessions: {}", explain(&program, kind, index));
         return ExitCode::FAILURE;
     }
     println!(

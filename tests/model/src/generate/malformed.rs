@@ -116,7 +116,7 @@ fn fields(draws: &mut Draws) -> Vec<u8> {
 
 /// A line of 62 to 67 bytes, now and then far more: a record with zeros before
 /// its last number, one before or behind blanks or the like, one again and again,
-/// or bytes of any kind. None has a known shape: a record has 31 bytes at most.
+/// or bytes of any kind. None has a known shape: a record has 21 bytes at most.
 fn long(draws: &mut Draws) -> Vec<u8> {
     let length = draws.of(&[62, 63, 64, 65, 66, 67, 63, 64, 65, 66, 200]);
     let good = good(draws);
