@@ -120,7 +120,8 @@ typedef struct {
     ins2651_flags flags;
 } ins2651;
 
-/* The layout is the archive's. Bytes 23, 37 and 43 are padding, which no call reads. */
+/* The layout is the archive's. Bytes 23, 37 and 43 are padding: no call reads it and none keeps it, so compare devices
+ * field by field and not by their bytes. */
 #ifdef __cplusplus
 #define INS2651_HOLDS(fact) static_assert(fact, #fact)
 #else

@@ -8,7 +8,7 @@
  *     receive LEVEL         REFUSAL
  *     outputs               TXRDY RXRDY TXEMT DTR RTS
  *     device HEX            0       the device's 44 bytes are set, by 88 hexadecimal digits
- *     bytes                 HEX     the device's 44 bytes
+ *     bytes                 HEX     the device's 44 bytes, its padding as 00
  *
  * Numbers are decimal, 0 to 255. The device begins as one just reset. A line of another form ends the program with status 2. */
 #include <stdio.h>
@@ -56,6 +56,7 @@ static int set_bytes(const char *hex) {
 static void print_bytes(void) {
     unsigned char bytes[sizeof device];
     memcpy(bytes, &device, sizeof device);
+    bytes[23] = bytes[37] = bytes[43] = 0; /* padding: no call reads it, none keeps it */
     for (size_t i = 0; i < sizeof bytes; i++) printf("%02x", bytes[i]);
     printf("\n");
 }

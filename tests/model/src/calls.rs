@@ -7,6 +7,8 @@ use std::fmt;
 
 /// The bytes of a device in C's layout (docs/RANGES.md).
 pub const DEVICE_BYTES: usize = 44;
+/// The bytes between fields, which the driver shows as 00.
+const PADDING: [usize; 3] = [23, 37, 43];
 
 #[derive(Clone, Copy, Debug, PartialEq, Eq)]
 pub enum Call {
@@ -107,6 +109,11 @@ fn hexadecimal(bytes: &[u8]) -> String {
     bytes.iter().map(|byte| format!("{byte:02x}")).collect()
 }
 
+fn without_padding(mut bytes: [u8; DEVICE_BYTES]) -> [u8; DEVICE_BYTES] {
+    PADDING.iter().for_each(|&place| bytes[place] = 0);
+    bytes
+}
+
 /// The device that a host lends, as the model has it.
 pub enum Lent {
     InRange(Chip),
@@ -126,7 +133,7 @@ impl Lent {
             }
             Line::Bytes => match self {
                 Lent::InRange(_) => None,
-                Lent::OutOfRange(bytes) => Some(hexadecimal(bytes)),
+                Lent::OutOfRange(bytes) => Some(hexadecimal(&without_padding(*bytes))),
             },
         }
     }
