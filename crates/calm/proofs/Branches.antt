@@ -40,6 +40,13 @@ least-above m n k h i = go (ltb m n) refl
     go true e = rw e h
     go false e = rw e i
 
+-- .. and falls by one where neither falls by more
+pub least-again : (m n j k : ℕ) → m ≤ suc j → n ≤ suc k → least m n ≤ suc (least j k)
+least-again m n j k h i =
+    let b = least-both m n in
+    let l : least m n - 1 ≤ least j k = least-above j k (least m n - 1) (omega arith) (omega arith) in
+    omega arith
+
 least-none : (m n : ℕ) → m ≡ 0 → 0 ≡ least m n
 least-none m n e = let q : 0 ≡ least m n = omega (arith, least-both m n .first) in q
 

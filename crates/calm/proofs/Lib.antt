@@ -1,1 +1,4 @@
 pub mod Branches
+pub mod Senders
+pub mod Receivers
+pub mod Devices
