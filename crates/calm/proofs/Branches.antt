@@ -2,7 +2,7 @@
 -- Assumes nothing.
 use Prim.Native.Nat.{ℕ, suc, _+_, _-_, _≤_, _<_}
 use native.Mathlib.Omega.{arith}
-use mathlib.Core.Path.{_≡_, refl, ap, sym, _∙_}
+use mathlib.Core.Path.{_≡_, refl, ap, sym, subst, _∙_}
 use mathlib.Core.Bool.{Bool, true, false}
 use lib.Dec.{ltb}
 use borrow.Author.Tests.{lt-ltb, le-ltb, ltb-true, ltb-false}
@@ -32,6 +32,9 @@ least-both m n = go (ltb m n) refl
     go true e = rw e (record { first = omega arith; second = omega (arith, ltb-true m n e) })
     go false e = rw e (record { first = omega (arith, ltb-false m n e); second = omega arith })
 
+pub least-is : (m n k : ℕ) → k ≡ least m n → Least m n k
+least-is m n k e = subst (Least m n) (sym e) (least-both m n)
+
 -- .. and at least what both are
 pub least-above : (m n k : ℕ) → k ≤ m → k ≤ n → k ≤ least m n
 least-above m n k h i = go (ltb m n) refl
@@ -47,7 +50,7 @@ least-again m n j k h i =
     let l : least m n - 1 ≤ least j k = least-above j k (least m n - 1) (omega arith) (omega arith) in
     omega arith
 
-least-none : (m n : ℕ) → m ≡ 0 → 0 ≡ least m n
+pub least-none : (m n : ℕ) → m ≡ 0 → 0 ≡ least m n
 least-none m n e = let q : 0 ≡ least m n = omega (arith, least-both m n .first) in q
 
 -- == the places of a frame that are left, of l in all ==

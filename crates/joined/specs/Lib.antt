@@ -1,3 +1,4 @@
 pub mod Joining
 pub mod Bench
 pub mod Demand3
+pub mod Skipping

@@ -1,8 +1,10 @@
 // Two devices joined by a line: document 01, "Receiving, by receive ticks", on joined ticks.
 // Every call takes any number in any field, and none is refused. A device out of range is taken as one just reset.
 ghost use mathlib.Core.Path.{_≡_};
+ghost use Prim.Native.Nat.{_≤_};
 ghost use Rattle.joined.specs.Joining;
-ghost use Rattle.joined.specs.Joining.{settledPair, joinedTick, ticks};
+ghost use Rattle.joined.specs.Joining.{settledPair, joinedTick, joinedTicks, ticks};
+ghost use Rattle.joined.specs.Skipping.{calmTicks};
 use ins2651::Device;
 use ins2651::Ticked;
 
@@ -58,20 +60,46 @@ pub fn tick(p: Pair) -> Joined
     joined_tick(settle(p))
 }
 
-// n joined ticks of a pair in range.
+// How many ticks of a pair only count.
+fn calm_ticks(p: Pair) -> u16
+    ensures { λ r. ⌜ r ≡ calmTicks p ⌝ }
+{
+    let a = calm::ticks(p.a, calm::marks(p.b));
+    if a == 0 {
+        return 0;
+    }
+    calm::least(a, calm::ticks(p.b, calm::marks(p.a)))
+}
+
+// k of them at once.
+fn skip(p: Pair, k: u16) -> Pair
+    requires { ⌜ k ≤ calmTicks p ⌝ }
+    ensures { λ r. ⌜ r ≡ joinedTicks k p ⌝ }
+{
+    if k == 0 {
+        return p;
+    }
+    Pair {
+        a: calm::skip(p.a, k),
+        b: calm::skip(p.b, k),
+    }
+}
+
+// n joined ticks of a pair in range: those that only count at once, then the one that does more.
 fn ticks_on(p: Pair, n: u16) -> Pair
-    ensures { λ r. ⌜ r ≡ Joining.joinedTicks n p ⌝ }
+    ensures { λ r. ⌜ r ≡ joinedTicks n p ⌝ }
 {
     let mut pair = p;
     let mut left = n;
     while 0 < left {
-        pair = joined_tick(pair).pair;
-        left = left - 1;
+        let k = calm::least(calm_ticks(pair), left - 1);
+        pair = joined_tick(skip(pair, k)).pair;
+        left = left - k - 1;
     }
     pair
 }
 
-// n joined ticks, one after another; the ranges are checked once.
+// n joined ticks; the ranges are checked once.
 pub fn run(p: Pair, n: u16) -> Pair
     ensures { λ r. ⌜ r ≡ ticks n p ⌝ }
 {
