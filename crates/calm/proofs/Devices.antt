@@ -8,17 +8,16 @@ use Rattle.line.specs.Sending.{on}
 use Rattle.line.proofs.Bits.{on-bit}
 use Rattle.link.specs.declared.SenderHalf.{SenderHalf}
 use Rattle.link.specs.declared.ReceiverHalf.{ReceiverHalf}
-use Rattle.link.specs.declared.Received.{Received}
 use Rattle.ins2651.specs.declared.Device.{Device}
 use Rattle.ins2651.specs.Shape.{withSender, withReceiver, withEmpty}
 use Rattle.ins2651.specs.Modes.{sendFormat, receiveFormat}
 use Rattle.ins2651.specs.Conditions.{transmitting, sending, breaking, receiving}
 use Rattle.ins2651.specs.Pinning.{orSet}
-use Rattle.ins2651.specs.Ticks.{sent, transmitTick, received, receivedBy, receiveTick}
-use Rattle.calm.specs.Calm.{senderCalm, receiverCalm, senderSkipped, receiverSkipped, marks, calm, skipped}
+use Rattle.ins2651.specs.Ticks.{sent, transmitTick, receivedBy, receiveTick}
+use Rattle.calm.specs.Calm.{senderCalm, receiverCalm, senderSkipped, receiverSkipped, looks, marks, calm, skipped}
 use Rattle.calm.proofs.Branches.{Least, least-both, least-again}
 use Rattle.calm.proofs.Senders.{Counted, sender-counts, sender-again, marks-again, sender-then}
-use Rattle.calm.proofs.Receivers.{receiver-counts, receiver-again, receiver-then}
+use Rattle.calm.proofs.Receivers.{receiver-counts, receiver-again, receiver-then, look-now}
 
 -- a tick that only counts in the device does in both halves
 halves : (d : Device) (m : Bool) → Least (receiverCalm (d .receiver) (receiving d) m) (senderCalm (d .sender) (sending d) (breaking d)) (calm d m)
@@ -69,3 +68,7 @@ unfolding skipped
 skips-then d m k h =
     ap₂ (λ (s : SenderHalf) (r : ReceiverHalf). record { registers = d .registers; pins = d .pins; sender = s; receiver = r; flags = d .flags })
     (sender-then (d .sender) (sending d) (breaking d) k (omega (arith, halves d m .second))) (receiver-then (d .receiver) k)
+
+-- a device that looks at the next tick has no calm one
+pub looks-none : (d : Device) (m : Bool) → looks d ≡ true → calm d m ≤ 0
+looks-none d m h = omega (arith, halves d m .first, look-now (d .receiver) (receiving d) m h)

@@ -1,11 +1,11 @@
 -- The receiver: a tick that only counts does what skipping one does, and what is skipped in parts is skipped at once.
 -- Assumes nothing.
-use Prim.Native.Nat.{ℕ, zero, suc, _-_, _≤_}
+use Prim.Native.Nat.{ℕ, suc, _-_, _≤_}
 use native.Mathlib.Omega.{arith}
 use mathlib.Core.Path.{_≡_, refl, ap, ap₂, sym, _∙_}
-use mathlib.Core.Bool.{Bool, true, false, cond, _&&_}
+use mathlib.Core.Bool.{Bool, true, false, _&&_}
 use lib.Dec.{eqb}
-use borrow.Author.Tests.{eqb-true, eq-eqb}
+use borrow.Author.Tests.{eqb-true, eq-eqb, ne-eqb}
 use Rattle.line.specs.declared.Format.{Format}
 use Rattle.line.specs.declared.Receiver.{Receiver}
 use Rattle.line.specs.declared.Heard.the-variants.{Nothing}
@@ -15,7 +15,7 @@ use Rattle.link.specs.declared.Received.{Received}
 use Rattle.link.specs.Parts.{noFormat}
 use Rattle.link.specs.Within.{isNoFormat, restInRange}
 use Rattle.link.specs.Hearing.{receive}
-use Rattle.calm.specs.Calm.{endless, clear, receiverCalm, lowered, receiverSkipped}
+use Rattle.calm.specs.Calm.{clear, receiverCalm, receiverSkipped}
 use Rattle.line.proofs.Table.{both}
 use Rattle.calm.proofs.Senders.{endless-so}
 
@@ -70,7 +70,6 @@ is-clear r p e h =
     let t = both (isNoFormat (r .format)) _ h in
     ap₂ (λ (s : Receiver) (g : Format). half s g (r .holding) (r .unread)) (at-rest (r .state) (t .1) ∙ ap atRest e) (no-format (r .format) (t .0))
 
-
 -- == a tick ==
 
 -- the countdown of one with no character under way is 0, and stays so
@@ -93,6 +92,7 @@ module _ (r : ReceiverHalf) (live marks : Bool) where
           let t = both (eqb (r .state .phase) 1 && marks) _ (endless-so _ (rw (l, e) at h)) in
           let u = both (eqb (r .state .phase) 1) _ (t .0) in
           searching l (u .1) (is-clear r 1 (eqb-true (r .state .phase) 1 (u .0)) (t .1))
+
       go : (b : Bool) → live ≡ b → P
       go true l = on-phase l (eqb (r .state .phase) 2) refl
       go false l =
@@ -103,7 +103,10 @@ module _ (r : ReceiverHalf) (live marks : Bool) where
   unfolding receiverCalm
   looks-calm l e = rw (l, eq-eqb (r .state .phase) 2 e)
 
--- told that it is on
+off-calm : (r : ReceiverHalf) (marks : Bool) → r .state .phase ≡ 2 → receiverCalm r false marks ≡ 0
+unfolding receiverCalm
+off-calm r marks e = rw (ne-eqb (r .state .phase) 0 (λ z. omega arith))
+
 module _ (r : ReceiverHalf) (live : Bool) (f : Format) (x : Bool) where
   -- a tick between two looks lowers the countdown
   looks-kept : live ≡ true → r .state .phase ≡ 2 → 1 ≤ r .state .countdown → receive r live f x ≡ quietly (receiverSkipped 1 r)
@@ -141,7 +144,7 @@ module _ (r : ReceiverHalf) (live marks : Bool) (h : 1 ≤ receiverCalm r live m
       (λ l m e. search-kept r live f x l (heard m) e)
       (λ l e. off-kept r live f x l e)
 
--- == many ==
+  -- == many ==
 
   -- the calm lasts, but for the tick that passed, if the line stays at 1
   pub receiver-again : (n : Bool) → (marks ≡ true → n ≡ true) → receiverCalm r live marks ≤ suc (receiverCalm (receiverSkipped 1 r) live n)
@@ -157,3 +160,8 @@ pub receiver-then : (r : ReceiverHalf) (k : ℕ) → receiverSkipped k (receiver
 receiver-then r k =
     ap (λ (c : ℕ). half (record { phase = r .state .phase; countdown = c; value = r .state .value; wrong = r .state .wrong; look = r .state .look }) (r .format) (r .holding) (r .unread))
     (let e : r .state .countdown - 1 - k ≡ r .state .countdown - suc k = omega arith in e)
+
+-- a receiver that looks at the next tick has no calm one
+pub look-now : (r : ReceiverHalf) (live marks : Bool) → (eqb (r .state .phase) 2 && eqb (r .state .countdown) 0) ≡ true → receiverCalm r live marks ≡ 0
+look-now r true marks h = let t = both (eqb (r .state .phase) 2) _ h in looks-calm r true marks refl (eqb-true _ _ (t .0)) ∙ eqb-true _ _ (t .1)
+look-now r false marks h = let t = both (eqb (r .state .phase) 2) _ h in off-calm r marks (eqb-true _ _ (t .0))

@@ -1,14 +1,14 @@
 -- The sender: a tick that only counts does what skipping one does, and what is skipped in parts is skipped at once.
 -- Assumes nothing.
-use Prim.Native.Nat.{ℕ, zero, suc, _+_, _*_, _-_, _/_, _%_, _≤_, _<_}
-use native.Mathlib.Nat.{mod-eq-of-lt, le-div-iff-mul-le}
+use Prim.Native.Nat.{ℕ, suc, _+_, _-_, _%_, _≤_, _<_}
+use native.Mathlib.Nat.{mod-eq-of-lt}
 use native.Mathlib.Omega.{arith}
-use mathlib.Core.Path.{_≡_, refl, ap, sym, subst, _∙_}
+use mathlib.Core.Path.{_≡_, refl, ap, sym, _∙_}
 use mathlib.Core.Bool.{Bool, true, false, cond, not, _&&_}
-use lib.Dec.{ltb, leb, eqb}
+use lib.Dec.{eqb}
 use borrow.Author.Tests.{lt-ltb, le-ltb, le-leb, ltb-true, ltb-false, leb-true, eqb-true, ne-eqb}
 use Rattle.line.specs.declared.Format.{Format}
-use Rattle.line.specs.Sending.{on, parityBits, frameLength, part, levelOf, level}
+use Rattle.line.specs.Sending.{on, frameLength, level}
 use Rattle.line.proofs.Choice.{all, not-so}
 use Rattle.line.proofs.Frames.{level-stop}
 use Rattle.line.proofs.Table.{both}
@@ -18,8 +18,8 @@ use Rattle.link.specs.declared.Sent.{Sent}
 use Rattle.link.specs.Parts.{noFrame, withFrame, withGuard}
 use Rattle.link.specs.Transmitting.{nextPlace, frameAt, frameNext, frameTick, markTick, transmit}
 use Rattle.link.proofs.Halves.{transmit-under}
-use Rattle.calm.specs.Calm.{least, endless, idle, placesLeft, senderCalm, stopping, senderMarks, moved, senderSkipped}
-use Rattle.calm.proofs.Branches.{Least, least-both, least-above}
+use Rattle.calm.specs.Calm.{endless, idle, placesLeft, senderCalm, stopping, senderMarks, moved, senderSkipped}
+use Rattle.calm.proofs.Branches.{Least, least-both}
 
 -- a count that is not 0
 pub endless-so : (t : Bool) → 1 ≤ endless t → t ≡ true
@@ -88,25 +88,23 @@ at-rest s t =
     ap (λ (j : ℕ). withFrame s (frameAt (s .frame) j)) e
 
 module _ (s : SenderHalf) (ready broken : Bool) (f : Format) (t : on (s .frame .place) ≡ false) (h : idle s ready broken ≡ true) where
+  unguarded : s .guard ≡ 0
+  unguarded =
+      let p = both (not (ready && broken) && eqb (s .guard) 0) _ h in
+      eqb-true (s .guard) 0 (both (not (ready && broken)) _ (p .0) .1)
+
   marks-only : transmit s ready broken f ≡ markTick s
   unfolding transmit
   marks-only =
       let p = both (not (ready && broken) && eqb (s .guard) 0) _ h in
       let q = both (not (ready && broken)) _ (p .0) in
-      let z : s .guard ≤ 0 = omega (arith, eqb-true (s .guard) 0 (q .1)) in
-      rw (t, not-so (ready && broken) (q .0), le-ltb 0 (s .guard) z, not-so (ready && on (s .full)) (p .1))
-
-  unguarded : s .guard - 1 ≡ s .guard
-  unguarded =
-      let p = both (not (ready && broken) && eqb (s .guard) 0) _ h in
-      let q = both (not (ready && broken)) _ (p .0) in
-      omega (arith, eqb-true (s .guard) 0 (q .1))
+      rw (t, not-so (ready && broken) (q .0), le-ltb 0 (s .guard) (omega (arith, unguarded)), not-so (ready && on (s .full)) (p .1))
 
   idle-counts : (m : Bool) → Counted s m (transmit s ready broken f)
   idle-counts m =
       rw marks-only
       (record {
-        half = ap (withGuard s) unguarded ∙ sym (at-rest s t);
+        half = ap (withGuard s) (let e : s .guard - 1 ≡ s .guard = omega (arith, unguarded) in e) ∙ sym (at-rest s t);
         drained = refl;
         level = λ e. refl;
       })
@@ -133,8 +131,6 @@ module _ (s : SenderHalf) (ready broken : Bool) where
       (λ t p. rw (transmit-under s ready broken f t, t) (busy-counts s t p))
       (λ t p. idle-counts s ready broken f t p (senderMarks s ready broken))
 
--- == many ==
-
   -- of a frame under way
   busy-calm : on (s .frame .place) ≡ true → senderCalm s ready broken ≡ placesLeft (s .frame)
   unfolding senderCalm
@@ -143,6 +139,8 @@ module _ (s : SenderHalf) (ready broken : Bool) where
   busy-marks : on (s .frame .place) ≡ true → senderMarks s ready broken ≡ stopping (s .frame)
   unfolding senderMarks
   busy-marks t = rw t
+
+-- == many ==
 
 -- the frame at another place
 abbrev at : SenderHalf → ℕ → SenderHalf

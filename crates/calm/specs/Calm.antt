@@ -74,6 +74,10 @@ receiverSkipped k r = record { state = lowered (r .state) k; format = r .format;
 
 -- == the device ==
 
+-- its receiver has a look at the next tick, which is not calm
+abbrev pub looks : Device → Bool
+looks d = eqb (d .receiver .state .phase) 2 && eqb (d .receiver .state .countdown) 0
+
 -- its calm ticks send 1
 unfoldable pub marks : Device → Bool
 marks d = senderMarks (d .sender) (sending d) (breaking d)

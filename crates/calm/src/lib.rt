@@ -154,6 +154,13 @@ fn lowered(c: u8, k: u16) -> u8
 
 // == the device ==
 
+// Whether its receiver looks at the next tick: the quickest sign that this is not calm.
+pub fn looks(d: Device) -> bool
+    ensures { λ r. ⌜ r ≡ Calm.looks d ⌝ }
+{
+    (d.receiver.state.phase == 2) & (d.receiver.state.countdown == 0)
+}
+
 // Whether its calm ticks send 1.
 pub fn marks(d: Device) -> bool
     ensures { λ r. ⌜ r ≡ Calm.marks d ⌝ }

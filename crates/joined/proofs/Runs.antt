@@ -1,6 +1,6 @@
 -- Runs of joined ticks: a tick keeps the ranges, so that a run need check them only once.
 -- Assumes nothing.
-use Prim.Native.Nat.{ℕ, zero, suc, _+_, _-_, _<_, _≤_}
+use Prim.Native.Nat.{ℕ, zero, suc, _+_, _<_, _≤_}
 use native.Mathlib.Nat.{zero-add, suc-add}
 use native.Mathlib.Omega.{arith}
 use mathlib.Core.Path.{_≡_, refl, ap, ap₂, sym, _∙_}
@@ -88,10 +88,6 @@ settled-ticks (suc n) p h =
     sym (ap (λ (o : Joined). ticks n (o .pair)) (tick-is p) ∙ in-range-ticks n (joinedTick (settledPair p) .pair) (joined-in (settledPair p) (settled-both p)))
 
 -- == the loop ==
-
-pub one-less : (k : ℕ) (p : Pair) → 0 < k → joinedTicks k p ≡ joinedTicks (k - 1) (joinedTick p .pair)
-one-less zero p h = absurd (omega arith)
-one-less (suc k) p h = ap (λ (m : ℕ). joinedTicks m (joinedTick p .pair)) (let e : k ≡ suc k - 1 = omega arith in e)
 
 pub none-left : (k : ℕ) (p : Pair) → k ≤ 0 → joinedTicks k p ≡ p
 none-left zero p h = refl

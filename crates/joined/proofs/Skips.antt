@@ -3,16 +3,15 @@
 use Prim.Native.Nat.{ℕ, zero, suc, _+_, _-_, _≤_, _<_}
 use native.Mathlib.Nat.{zero-add, suc-add}
 use native.Mathlib.Omega.{arith}
-use mathlib.Core.Path.{_≡_, refl, ap, ap₂, sym, _∙_}
-use mathlib.Core.Bool.{Bool, true}
+use mathlib.Core.Path.{_≡_, ap, ap₂, sym, _∙_}
+use mathlib.Core.Bool.{Bool, true, false, _||_}
 use Rattle.line.specs.Sending.{on}
 use Rattle.ins2651.specs.declared.Device.{Device}
 use Rattle.ins2651.specs.Ticks.{transmitTick}
-use Rattle.calm.specs.Calm.{least, marks, calm, skipped}
+use Rattle.calm.specs.Calm.{looks, marks, calm, skipped}
 use Rattle.calm.proofs.Branches.{Least, least-both, least-again, least-none}
-use Rattle.calm.proofs.Devices.{sends-mark, tick-skips, calm-again, marks-still, skips-then}
+use Rattle.calm.proofs.Devices.{sends-mark, tick-skips, calm-again, marks-still, skips-then, looks-none}
 use Rattle.joined.specs.declared.Pair.{Pair}
-use Rattle.joined.specs.declared.Joined.{Joined}
 use Rattle.joined.specs.Joining.{joinedTick, joinedTicks}
 use Rattle.joined.specs.Skipping.{calmTicks}
 
@@ -71,6 +70,11 @@ skips (suc k) p z h = sym (skips-on k p h)
 pub none-calm : (p : Pair) (m : Bool) (n : ℕ) → m ≡ marks (p .b) → n ≡ calm (p .a) m → n ≡ 0 → 0 ≡ calmTicks p
 unfolding calmTicks
 none-calm p m n e q z = least-none _ _ (sym (ap (calm (p .a)) e) ∙ sym q ∙ z)
+
+-- nor does one that looks at the next tick
+pub looks-next : (p : Pair) (m n : Bool) → m ≡ looks (p .a) → n ≡ looks (p .b) → (m || n) ≡ true → 0 ≡ calmTicks p
+looks-next p true n e q t = omega (arith, sides p .first, looks-none (p .a) (marks (p .b)) (sym e))
+looks-next p false n e q t = omega (arith, sides p .second, looks-none (p .b) (marks (p .a)) (sym q ∙ t))
 
 -- == the loop ==
 

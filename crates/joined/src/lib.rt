@@ -60,10 +60,14 @@ pub fn tick(p: Pair) -> Joined
     joined_tick(settle(p))
 }
 
-// How many ticks of a pair only count.
+// How many ticks of a pair only count; most often a look comes next.
 fn calm_ticks(p: Pair) -> u16
     ensures { λ r. ⌜ r ≡ calmTicks p ⌝ }
 {
+    let looks = calm::looks(p.a) | calm::looks(p.b);
+    if looks {
+        return 0;
+    }
     let a = calm::ticks(p.a, calm::marks(p.b));
     if a == 0 {
         return 0;

@@ -1,6 +1,5 @@
 -- `calm::places_left` meets its contract. Against the frame's length, in 16 bits.
 -- Assumes nothing.
-use native.Mathlib.Omega.{arith}
 use borrow.Author.Needs.{needs}
 use Rattle.calm.proofs.Branches.{left-none, left-cut, left-all}
 use Rattle.calm.proofs.places_left.Statement.{statement}
