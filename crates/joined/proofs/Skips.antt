@@ -13,21 +13,21 @@ use Rattle.calm.proofs.Branches.{Least, least-both, least-again, least-none}
 use Rattle.calm.proofs.Devices.{sends-mark, tick-skips, calm-again, marks-still, skips-then, looks-none}
 use Rattle.joined.specs.declared.Pair.{Pair}
 use Rattle.joined.specs.Joining.{joinedTick, joinedTicks}
-use Rattle.joined.specs.Skipping.{calmTicks}
+use Rattle.joined.specs.Skipping.{calmBeside, calmTicks}
 
 abbrev pub skippedPair : ℕ → Pair → Pair
 skippedPair k p = record { a = skipped k (p .a); b = skipped k (p .b) }
 
 -- a tick that only counts does in both devices
-sides : (p : Pair) → Least (calm (p .a) (marks (p .b))) (calm (p .b) (marks (p .a))) (calmTicks p)
+sides : (p : Pair) → Least (calmBeside (p .a) (p .b)) (calmBeside (p .b) (p .a)) (calmTicks p)
 unfolding calmTicks
-sides p = least-both (calm (p .a) (marks (p .b))) (calm (p .b) (marks (p .a)))
+sides p = least-both (calmBeside (p .a) (p .b)) (calmBeside (p .b) (p .a))
 
 module _ (p : Pair) (h : 1 ≤ calmTicks p) where
-  in-a : 1 ≤ calm (p .a) (marks (p .b))
+  in-a : 1 ≤ calmBeside (p .a) (p .b)
   in-a = omega (arith, sides p .first)
 
-  in-b : 1 ≤ calm (p .b) (marks (p .a))
+  in-b : 1 ≤ calmBeside (p .b) (p .a)
   in-b = omega (arith, sides p .second)
 
   one-skips : joinedTick p .pair ≡ skippedPair 1 p
@@ -41,8 +41,8 @@ module _ (p : Pair) (h : 1 ≤ calmTicks p) where
   calm-left : calmTicks p ≤ suc (calmTicks (skippedPair 1 p))
   unfolding calmTicks
   calm-left =
-      least-again (calm (p .a) (marks (p .b))) (calm (p .b) (marks (p .a)))
-      (calm (skipped 1 (p .a)) (marks (skipped 1 (p .b)))) (calm (skipped 1 (p .b)) (marks (skipped 1 (p .a))))
+      least-again (calmBeside (p .a) (p .b)) (calmBeside (p .b) (p .a))
+      (calmBeside (skipped 1 (p .a)) (skipped 1 (p .b))) (calmBeside (skipped 1 (p .b)) (skipped 1 (p .a)))
       (calm-again (p .a) (marks (p .b)) in-a (marks (skipped 1 (p .b))) (marks-still (p .b) (marks (p .a)) in-b))
       (calm-again (p .b) (marks (p .a)) in-b (marks (skipped 1 (p .a))) (marks-still (p .a) (marks (p .b)) in-a))
 
