@@ -60,7 +60,7 @@ pub fn tick(p: Pair) -> Joined
     joined_tick(settle(p))
 }
 
-// How many ticks of a pair only count; most often a look comes next.
+// How many ticks of a pair only count: none where a look comes next, which with a factor of 1 is nearly always.
 fn calm_ticks(p: Pair) -> u16
     ensures { λ r. ⌜ r ≡ calmTicks p ⌝ }
 {
