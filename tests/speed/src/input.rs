@@ -1,4 +1,4 @@
-//! The inputs of the speed test: a line that stays idle, and one that is full both ways.
+//! The inputs of the speed test: a line that stays idle, one that is full both ways, and one in break.
 
 /// A mode 1, and the ticks that one of its frames lasts ("Sending").
 pub struct Frames {
@@ -32,6 +32,25 @@ pub fn full(frames: &Frames, characters: usize) -> String {
     text + STATUS
 }
 
+/// The same, but the frames of B lie half a frame behind those of A, so that no tick is a look of both.
+pub fn apart(frames: &Frames, characters: usize) -> String {
+    let half = frames.ticks / 2;
+    let mut text = set_up(frames.mode1) + &write("A", 0);
+    text += &format!("L\t{half}\n{}L\t1\n", write("B", 0));
+    for k in 1..=characters {
+        text += &format!("{}L\t{half}\nR\tB\t0\n", write("A", k));
+        text += &format!("{}L\t{half}\nR\tA\t0\n", write("B", k));
+    }
+    text + STATUS
+}
+
+/// Both ends freshly set up, then in break for `runs` of the most ticks.
+pub fn broken(runs: usize) -> String {
+    let mut text = set_up(FULL_16.mode1) + "W\tA\t3\t47\nW\tB\t3\t47\n";
+    text += &"L\t65535\n".repeat(runs);
+    text + STATUS
+}
+
 /// The error flags are in the status: they show a character that was lost or taken wrongly.
 const STATUS: &str = "R\tA\t1\nR\tB\t1\n";
 
@@ -46,11 +65,12 @@ fn set_up(mode1: u8) -> String {
     text + "L\t1\n"
 }
 
-/// All byte values in turn, other ones for A than for B.
 fn write_both(k: usize) -> String {
-    format!(
-        "W\tA\t0\t{}\nW\tB\t0\t{}\n",
-        (7 * k + 1) % 256,
-        (13 * k + 85) % 256
-    )
+    write("A", k) + &write("B", k)
+}
+
+/// All byte values in turn, other ones for A than for B.
+fn write(unit: &str, k: usize) -> String {
+    let value = if unit == "A" { 7 * k + 1 } else { 13 * k + 85 };
+    format!("W\t{unit}\t0\t{}\n", value % 256)
 }

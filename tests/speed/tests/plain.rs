@@ -3,7 +3,7 @@
 use model::chip::Chip as Slow;
 use model::Generator;
 use speed::chip::{joined_ticks, Chip};
-use speed::input::{full, idle, Frames, FULL_16, FULL_64};
+use speed::input::{apart, broken, full, idle, FULL_16, FULL_64};
 
 /// One chip both ways; each call is answered alike.
 struct Twin {
@@ -179,28 +179,32 @@ fn the_plain_session_is_the_models() {
         same_answer(input.to_string());
     }
     assert!(same_answer(idle(1)).ends_with("R\tA\t1\t197\nR\tB\t1\t197\nN\t12\t0\n"));
+    assert!(same_answer(broken(1)).ends_with("R\tA\t1\t231\nR\tB\t1\t231\nN\t14\t0\n"));
 }
 
-/// Each character is read at the other end, and no error flag is set.
-fn nothing_is_lost(frames: &Frames) {
-    let answer = same_answer(full(frames, 300));
-    let mut lines = answer.lines();
-    for k in 0..300 {
-        assert_eq!(
-            lines.next(),
-            Some(&*format!("R\tA\t0\t{}", (13 * k + 85) % 256))
-        );
-        assert_eq!(
-            lines.next(),
-            Some(&*format!("R\tB\t0\t{}", (7 * k + 1) % 256))
-        );
-    }
+/// Each of 300 characters is read at the other end, and no error flag is set.
+fn nothing_is_lost(session: String) {
+    let answer = same_answer(session);
+    let read_at = |unit: &str| -> Vec<&str> {
+        let from = format!("R\t{unit}\t0\t");
+        let values = answer.lines().filter_map(|line| line.strip_prefix(&*from));
+        values.collect()
+    };
+    let sent = |value: fn(usize) -> usize| -> Vec<String> {
+        let values = (0..300).map(|k| (value(k) % 256).to_string());
+        values.collect()
+    };
+    assert_eq!(read_at("A"), sent(|k| 13 * k + 85));
+    assert_eq!(read_at("B"), sent(|k| 7 * k + 1));
+    let mut lines = answer.lines().skip(600);
     assert_eq!(lines.next(), Some("R\tA\t1\t197"));
     assert_eq!(lines.next(), Some("R\tB\t1\t197"));
 }
 
 #[test]
 fn a_full_line_is_the_models() {
-    nothing_is_lost(&FULL_16);
-    nothing_is_lost(&FULL_64);
+    for frames in [&FULL_16, &FULL_64] {
+        nothing_is_lost(full(frames, 300));
+        nothing_is_lost(apart(frames, 300));
+    }
 }

@@ -1,6 +1,6 @@
-//! Prints an input of the speed test: `input idle`, `input full16` or `input full64`.
+//! Prints an input of the speed test: `input NAME`.
 
-use speed::input::{full, idle, FULL_16, FULL_64};
+use speed::input::{apart, broken, full, idle, FULL_16, FULL_64};
 
 fn main() {
     let name = std::env::args().nth(1).expect("the name of an input");
@@ -8,6 +8,9 @@ fn main() {
         "idle" => idle(500),
         "full16" => full(&FULL_16, 13_000),
         "full64" => full(&FULL_64, 13_000),
+        "apart16" => apart(&FULL_16, 10_000),
+        "apart64" => apart(&FULL_64, 10_000),
+        "break" => broken(40),
         _ => panic!("no input is called {name}"),
     };
     print!("{text}");
