@@ -1,2 +1,5 @@
+pub mod Calls
+pub mod Lends
+pub mod Bytes
 pub mod Lent
 pub mod TakenApart

@@ -3,8 +3,9 @@
 use contract.Running.{givenOf, tables, tablesOf}
 use denote.Triple.Spec.{tripleOf}
 use denote.Triple.Table.{entered, cited}
-use Rattle.host.specs.Replies as Replies
-use Rattle.host.proofs.Lent as Lent
+use Rattle.host.specs.Replies as by-value
+use Rattle.host.proofs.Calls.{Replies, Callee}
+use Rattle.host.proofs.Lent.{meets}
 use Rattle.host.proofs.reset.Symbol as reset-def
 use Rattle.host.proofs.reset.Symbol.{name as #reset}
 use Rattle.host.proofs.reset.Met as reset-thm
@@ -13,13 +14,13 @@ use Rattle.host.proofs.ins2651_reset as f
 use Rattle.host.proofs.ins2651_reset.Statement as stated
 use Rattle.host.proofs.ins2651_reset.Code as code
 
-abbrev replies : Lent.Replies 0
-replies d xs = Replies.reset d
+abbrev replies : Replies 0
+replies d xs = by-value.reset d
 
 pub ins2651-reset-spec : {M : Type 1} → stated.statement M
 unfolding code.routine tablesOf
 ins2651-reset-spec 𝓤 H 𝓜 𝓖 𝓡 =
     entered 𝓤 H (tripleOf 𝓤 H (𝓖 .A) f.signature (f.spec 𝓤 H (𝓖 .A) (𝓜 .mem) (𝓡 .run)))
     (tables 𝓤 H 𝓜 𝓡 code.env .C) (tables 𝓤 H 𝓜 𝓡 code.env .Λ) #ins2651-reset code.function (code.unfolded 𝓤 H 𝓜 𝓡)
-    (Lent.meets0 𝓤 H (𝓖 .A) (givenOf 𝓤 H 𝓜 𝓖) replies (tablesOf 𝓤 H 𝓜 (tables 𝓤 H 𝓜 𝓡 code.env)) #reset
-    (cited 𝓤 H (Lent.Callee 𝓤 H (𝓖 .A) 0 replies) 𝓜 𝓡 code.env #reset reset-def.routine code.calls-host·reset (reset-thm.met 𝓤 H 𝓜 𝓖 𝓡)))
+    (meets 𝓤 H (𝓖 .A) (givenOf 𝓤 H 𝓜 𝓖) 0 replies (tablesOf 𝓤 H 𝓜 (tables 𝓤 H 𝓜 𝓡 code.env)) #reset
+    (cited 𝓤 H (Callee 𝓤 H (𝓖 .A) 0 replies) 𝓜 𝓡 code.env #reset reset-def.routine code.calls-host·reset (reset-thm.met 𝓤 H 𝓜 𝓖 𝓡)))
