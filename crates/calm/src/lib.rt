@@ -28,6 +28,7 @@ fn endless(t: bool) -> u16
 
 // == conditions ==
 
+// Bits 0, 3 and 2 of the command, each by its weight, as the chip reads them.
 fn sending(d: Device) -> bool
     ensures { λ r. ⌜ r ≡ Conditions.sending d ⌝ }
 {
