@@ -103,21 +103,31 @@ abbrev pub stayed : (n : ℕ) → Stays (lent n .signature .params) (lent n .kep
 stayed n = (stay-ref (0 ∷ []) tt (plain (λ _. D.the-row)), stay-bytes n)
 
 module _ {M : Type 1} (𝓤 : URA M) (H : Heap 𝓤) (A : Atoms 𝓤) (n : ℕ) (F : Replies n) where
-  -- a by-value call replies what F says ..
+  -- a by-value call replies what F says
   abbrev pub ByValue : Clauses 𝓤 (by-value n)
   ByValue κs a = record { ghost = Unit {0}; requires = λ _. emp 𝓤; ensures = λ _ r _. fact 𝓤 (r ≡ F (a .0) (numbers 0 n κs (a .1))) }
 
-  -- .. and a lent call answers F's answer and leaves F's device behind the reference
+  abbrev pub Callee : Contract 𝓤
+  Callee = tripleOf 𝓤 H A (by-value n .signature) (closing 𝓤 H A (by-value n) ByValue)
+
+-- what a lent call answers, and the device that it leaves behind the reference
+pub record Promise (n : ℕ) : Type 0 where
+  pub answers : Device → Bytes n → ℕ
+  pub leaves : Device → Bytes n → Device
+
+-- F keeps it
+pub record Keeps (n : ℕ) (F : Replies n) (P : Promise n) : Type 0 where
+  pub answer : (d : Device) (xs : Bytes n) → F d xs .answer ≡ P .answers d xs
+  pub device : (d : Device) (xs : Bytes n) → F d xs .device ≡ P .leaves d xs
+
+module _ {M : Type 1} (𝓤 : URA M) (n : ℕ) (P : Promise n) where
   abbrev pub Lent : Clauses 𝓤 (lent n)
   Lent κs a =
       record {
         ghost = Unit {0};
         requires = λ _. emp 𝓤;
-        ensures = λ _ r e. fact 𝓤 ((r ≡ F (now (a .0)) (numbers 1 n κs (a .1)) .answer) × (now (e .0) ≡ F (now (a .0)) (numbers 1 n κs (a .1)) .device));
+        ensures = λ _ r e. fact 𝓤 ((r ≡ P .answers (now (a .0)) (numbers 1 n κs (a .1))) × (now (e .0) ≡ P .leaves (now (a .0)) (numbers 1 n κs (a .1))));
       }
-
-  abbrev pub Callee : Contract 𝓤
-  Callee = tripleOf 𝓤 H A (by-value n .signature) (closing 𝓤 H A (by-value n) ByValue)
 
 -- == the code ==
 

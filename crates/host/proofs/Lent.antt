@@ -36,7 +36,7 @@ use Rattle.ins2651.proofs.Device.Laws as D′
 use Rattle.host.specs.declared.Reply.{Reply}
 use Rattle.host.proofs.Reply as R
 use Rattle.host.proofs.Reply.Laws as R′
-use Rattle.host.proofs.Calls.{vals, val, reference, Bytes, Replies, bytes, kept-bytes, numbers, lent, stay-bytes, stayed, Lent, Callee, copies, function, calling}
+use Rattle.host.proofs.Calls.{vals, val, reference, Bytes, Replies, bytes, kept-bytes, numbers, lent, stay-bytes, stayed, Promise, Keeps, Lent, Callee, copies, function, calling}
 use Rattle.host.proofs.Lends.{Frame, at-call, lends}
 use Rattle.host.proofs.Bytes.{Fit, values, denots, spelled, numbers-are, spelled-are, spell-bytes, tell-bytes, passed-are, fit-all, last-bytes, fits-bytes, go-bytes, has-bytes, own-bytes, env, further, all-stand, behind, last, cells, stands, alloc-bytes, pass-bytes, free-bytes, carried, read-bytes}
 
@@ -52,7 +52,7 @@ module _ {M : Type 1} (𝓤 : URA M) (H : Heap 𝓤) (A : Atoms 𝓤) (W : Given
       qed W (‵ (D.the-row .own h (vals h)) ∷ []) ∵ use0 W (‵ (owns (typesAt (bytes 0 n) tt) (denots n xs) (spelled n xs))) (own-bytes 𝓤 H A W n xs fits) $
       move ! (1 ∷ 0 ∷ []) $ join ! $ nothing ! $ join ! $ frame ! $ done !
 
-  module _ (h : Device) (xs : Bytes n) (fits : Fit n xs) (a l c r : ℕ) (ks : Bytes n) where
+  module _ (h : Device) (xs : Bytes n) (a l c r : ℕ) (ks : Bytes n) where
     abbrev locals : Env 𝓤 H
     locals = (tyInt w16, a) ∷ (reference, l) ∷ env n ks ((D′.mir, c) ∷ (R′.mir, r) ∷ [])
 
@@ -73,8 +73,8 @@ module _ {M : Type 1} (𝓤 : URA M) (H : Heap 𝓤) (A : Atoms 𝓤) (W : Given
         (carried W (λ G s. move ! (9 ∷ []) $ s) (λ G s. move ! (1 ∷ 2 ∷ 3 ∷ 4 ∷ 5 ∷ 6 ∷ 7 ∷ 8 ∷ 9 ∷ 0 ∷ []) $ s)
         (read-bytes W n ks xs _ locals 2 (further n ks (tyInt w16, a) _ 1 (further n ks (reference, l) _ 0 (all-stand n ks _))))))
 
-  module _ (C : Calls 𝓤 H) (Λ : Loops 𝓤 H) (fm : FmC 𝓤 H (W .laws) C) (g : Name) (known : Triple 𝓤 (C g) (Callee 𝓤 H A n F)) (h : Device) (xs : Bytes n) (fits : Fit n xs) (P : Val → SProp 𝓤) where
-    walk : ((z : Reply) → z ≡ F h xs → z .answer < 2 ^ 16 → ent 𝓤 (Lends (z .device)) (P (vint w16 (z .answer)))) → ent 𝓤 (Lends h) (WpFn 𝓤 H C Λ (function n g) (vptr b o ∷ values n xs) P)
+  module _ (C : Calls 𝓤 H) (Λ : Loops 𝓤 H) (fm : FmC 𝓤 H (W .laws) C) (g : Name) (known : Triple 𝓤 (C g) (Callee 𝓤 H A n F)) (h : Device) (xs : Bytes n) (fits : Fit n xs) (Q : Val → SProp 𝓤) where
+    walk : ((z : Reply) → z ≡ F h xs → z .answer < 2 ^ 16 → ent 𝓤 (Lends (z .device)) (Q (vint w16 (z .answer)))) → ent 𝓤 (Lends h) (WpFn 𝓤 H C Λ (function n g) (vptr b o ∷ values n xs) Q)
     walk ends =
         qed W (‵ (fobs γ (D.the-row .coded .code h)) ∷ ‵ (fbor κ (Body (mem D.the-row) b o γ)) ∷ ‵ (flft κ q) ∷ []) ∵
         enter ! C Λ (function n g) (vptr b o ∷ values n xs) _ $
@@ -83,13 +83,13 @@ module _ {M : Type 1} (𝓤 : URA M) (H : Heap 𝓤) (A : Atoms 𝓤) (W : Given
         pass1 ! (init ! 5 refl (tt, tt)) $ move ! (4 ∷ []) $ pass-bytes W n ks xs ((D′.mir, c) ∷ (R′.mir, r) ∷ []) fits (
         move ! (9 ∷ 10 ∷ 11 ∷ 1 ∷ 3 ∷ 5 ∷ 7 ∷ []) $
         -- [obs; the borrow; the token; the reply; the copy; the reference; the answer; the bytes; the ends of the reply, the copy, the reference and the answer]
-        lends W κ q b o γ h a l c r (at h xs fits a l c r ks) fm n F known (h, denots n xs) (vals h, spelled n xs) (goes h xs fits) (reads h xs fits a l c r ks _ _) (λ z e fit.
+        lends W κ q b o γ h a l c r (at h xs a l c r ks) fm n F known (h, denots n xs) (vals h, spelled n xs) (goes h xs fits) (reads h xs a l c r ks _ _) (λ z e fit.
         returns ! (look ! 6 refl) $ forget ! 6 refl $ move ! (6 ∷ 11 ∷ []) $ free1 ! $ move ! (5 ∷ 9 ∷ []) $ free1 ! $ move ! (5 ∷ []) $ free-bytes W n ks xs (
         move ! (4 ∷ 6 ∷ []) $ free1 ! $ move ! (3 ∷ 4 ∷ []) $ free1 ! $ free0 ! $ by ! (ends z (e ∙ ap (F h) (numbers-are n xs)) fit)))))))))
 
   -- == on entry, and at the end ==
 
-  module _ (h : Device) (xs : Denots (typesAt (bytes 1 n) (κ, tt))) (vs : Valss (typesAt (bytes 1 n) (κ, tt))) where
+  module _ (P : Promise n) (kept : Keeps n F P) (h : Device) (xs : Denots (typesAt (bytes 1 n) (κ, tt))) (vs : Valss (typesAt (bytes 1 n) (κ, tt))) where
     abbrev lent-device : RefT Device
     lent-device = record { ptr = (b, o); name = γ; now = h }
 
@@ -100,18 +100,18 @@ module _ {M : Type 1} (𝓤 : URA M) (H : Heap 𝓤) (A : Atoms 𝓤) (W : Given
         split ! $ move ! (2 ∷ []) $ fsplit ! $ fsplit3 ! $ drop ! $ keep ! (0 ∷ 1 ∷ 3 ∷ []) $ done !
 
     ends : (z : Reply) → z ≡ F h (numbers 1 n (κ, tt) xs) → z .answer < 2 ^ 16
-        → ent 𝓤 (Lends (z .device)) (walkOf 𝓤 H A (lent n) (stayed n) (Lent 𝓤 H A n F) .post (((κ, tt), (q, tt), tt, (lent-device, xs), (vptr b o ∷ [], vs)), tt) (vint w16 (z .answer)))
+        → ent 𝓤 (Lends (z .device)) (walkOf 𝓤 H A (lent n) (stayed n) (Lent 𝓤 n P) .post (((κ, tt), (q, tt), tt, (lent-device, xs), (vptr b o ∷ [], vs)), tt) (vint w16 (z .answer)))
     ends z e fits =
         qed W (‵ (fobs γ (D.the-row .coded .code (z .device))) ∷ ‵ (fbor κ (Body (mem D.the-row) b o γ)) ∷ ‵ (flft κ q) ∷ []) ∵
-        suffices ! _ (ends-at 𝓤 H A (lent n) (stayed n) (Lent 𝓤 H A n F) W (((κ, tt), (q, tt), tt, (lent-device, xs), (vptr b o ∷ [], vs)), tt) (vint w16 (z .answer)) (z .answer)
+        suffices ! _ (ends-at 𝓤 H A (lent n) (stayed n) (Lent 𝓤 n P) W (((κ, tt), (q, tt), tt, (lent-device, xs), (vptr b o ∷ [], vs)), tt) (vint w16 (z .answer)) (z .answer)
         (z .device, last-bytes n (κ, tt) xs) (tt, fits-bytes n (κ, tt) xs (last-bytes n (κ, tt) xs))) $
-        says ! (ap (λ (u : Reply). u .answer) e, ap (λ (u : Reply). u .device) e) $ nothing ! $ move ! (3 ∷ 0 ∷ []) $ join ! $
+        says ! (ap (λ (u : Reply). u .answer) e ∙ kept .answer h (numbers 1 n (κ, tt) xs), ap (λ (u : Reply). u .device) e ∙ kept .device h (numbers 1 n (κ, tt) xs)) $ nothing ! $ move ! (3 ∷ 0 ∷ []) $ join ! $
         frame ! $ feqI ! (List Val) (vptr b o ∷ []) (vptr b o ∷ []) refl $ fjoin3 ! $
         use0 W (‵ (hasOf (κ, tt) (bytes 1 n) (kept-bytes 1 n) (stay-bytes n) xs (last-bytes n (κ, tt) xs) vs)) (has-bytes 𝓤 H A W n (κ, tt) xs (last-bytes n (κ, tt) xs) vs) $
         move ! (1 ∷ 0 ∷ []) $ fjoin ! $ owned ! u16 (Is u16) (uint-makes 𝓤 H A W w16) (z .answer) _ (refl, fits) $ move ! (1 ∷ 0 ∷ []) $ done !
 
--- a lent call over any by-value call that replies as F says meets its contract
-module _ {M : Type 1} (𝓤 : URA M) (H : Heap 𝓤) (A : Atoms 𝓤) (W : Given 𝓤 H A) (n : ℕ) (F : Replies n) (𝓣 : Tables 𝓤 H) (g : Name) (known : Triple 𝓤 (𝓣 .C g) (Callee 𝓤 H A n F)) where
+-- a lent call over a by-value call whose replies keep its promise meets its contract
+module _ {M : Type 1} (𝓤 : URA M) (H : Heap 𝓤) (A : Atoms 𝓤) (W : Given 𝓤 H A) (n : ℕ) (F : Replies n) (P : Promise n) (kept : Keeps n F P) (𝓣 : Tables 𝓤 H) (g : Name) (known : Triple 𝓤 (𝓣 .C g) (Callee 𝓤 H A n F)) where
   abbrev spells : (κs : Lfts 1) → Spells (typesAt (lent n .signature .params) κs)
   spells κs = (ptr-vals, spell-bytes n κs)
 
@@ -120,17 +120,17 @@ module _ {M : Type 1} (𝓤 : URA M) (H : Heap 𝓤) (A : Atoms 𝓤) (W : Given
 
   walks : (κs : Lfts 1) (qs : Shares 1) (a : Args (lent n .signature) κs) → Are (typesAt (lent n .signature .params) κs) (Ises (typesAt (lent n .signature .params) κs)) a (said κs a)
       → ent 𝓤 (onEntry 𝓤 H A (lent n .signature) κs qs a (said κs a))
-      (WpFn 𝓤 H (𝓣 .C) (𝓣 .Λ) (function n g) (flat (typesAt (lent n .signature .params) κs) (said κs a)) (walkOf 𝓤 H A (lent n) (stayed n) (Lent 𝓤 H A n F) .post ((κs, qs, tt, a, said κs a), tt)))
+      (WpFn 𝓤 H (𝓣 .C) (𝓣 .Λ) (function n g) (flat (typesAt (lent n .signature .params) κs) (said κs a)) (walkOf 𝓤 H A (lent n) (stayed n) (Lent 𝓤 n P) .post ((κs, qs, tt, a, said κs a), tt)))
   walks κs qs a are =
-      via 𝓤 _ (enters 𝓤 H A W n F (κs .0) (qs .0) (a .0 .ptr .0) (a .0 .ptr .1) (a .0 .name) (a .0 .now) (a .1) (said κs a .1))
+      via 𝓤 _ (enters 𝓤 H A W n F (κs .0) (qs .0) (a .0 .ptr .0) (a .0 .ptr .1) (a .0 .name) P kept (a .0 .now) (a .1) (said κs a .1))
       (subst (λ (vs : List Val). ent 𝓤 (Lends 𝓤 H A W n F (κs .0) (qs .0) (a .0 .ptr .0) (a .0 .ptr .1) (a .0 .name) (a .0 .now))
-      (WpFn 𝓤 H (𝓣 .C) (𝓣 .Λ) (function n g) (vptr (a .0 .ptr .0) (a .0 .ptr .1) ∷ vs) (walkOf 𝓤 H A (lent n) (stayed n) (Lent 𝓤 H A n F) .post ((κs, qs, tt, a, said κs a), tt)))) (passed-are n κs (a .1))
+      (WpFn 𝓤 H (𝓣 .C) (𝓣 .Λ) (function n g) (vptr (a .0 .ptr .0) (a .0 .ptr .1) ∷ vs) (walkOf 𝓤 H A (lent n) (stayed n) (Lent 𝓤 n P) .post ((κs, qs, tt, a, said κs a), tt)))) (passed-are n κs (a .1))
       (walk 𝓤 H A W n F (κs .0) (qs .0) (a .0 .ptr .0) (a .0 .ptr .1) (a .0 .name) (𝓣 .C) (𝓣 .Λ) (fmOf 𝓤 H (W .laws) 𝓣) g known (a .0 .now) (numbers 1 n κs (a .1)) (fit-all n κs (a .1) (said κs a .1) (are .1)) _
-      (ends 𝓤 H A W n F (κs .0) (qs .0) (a .0 .ptr .0) (a .0 .ptr .1) (a .0 .name) (a .0 .now) (a .1) (said κs a .1))))
+      (ends 𝓤 H A W n F (κs .0) (qs .0) (a .0 .ptr .0) (a .0 .ptr .1) (a .0 .name) P kept (a .0 .now) (a .1) (said κs a .1))))
 
-  pub meets : Meets 𝓤 H A (lent n .signature) (WpFn 𝓤 H (𝓣 .C) (𝓣 .Λ) (function n g)) (closing 𝓤 H A (lent n) (Lent 𝓤 H A n F))
+  pub meets : Meets 𝓤 H A (lent n .signature) (WpFn 𝓤 H (𝓣 .C) (𝓣 .Λ) (function n g)) (closing 𝓤 H A (lent n) (Lent 𝓤 n P))
   meets =
-      walk-meets 𝓤 H A (lent n) (stayed n) W (goes-ref 𝓤 H A W 1 0 tt (plain (λ _. D.the-row)), go-bytes 𝓤 H A W n) (Lent 𝓤 H A n F)
+      walk-meets 𝓤 H A (lent n) (stayed n) W (goes-ref 𝓤 H A W 1 0 tt (plain (λ _. D.the-row)), go-bytes 𝓤 H A W n) (Lent 𝓤 n P)
       (WpFn 𝓤 H (𝓣 .C) (𝓣 .Λ) (function n g)) (WpFn-mono 𝓤 H (W .laws) 𝓣 (function n g))
-      (walked 𝓤 H A (lent n) (stayed n) (Lent 𝓤 H A n F) (WpFn 𝓤 H (𝓣 .C) (𝓣 .Λ) (function n g)) spells (λ κs. (mut-tells (named 0) (κs .0) D.the-row, tell-bytes n κs))
+      (walked 𝓤 H A (lent n) (stayed n) (Lent 𝓤 n P) (WpFn 𝓤 H (𝓣 .C) (𝓣 .Λ) (function n g)) spells (λ κs. (mut-tells (named 0) (κs .0) D.the-row, tell-bytes n κs))
       (λ κs qs bounds a _ are. via 𝓤 _ (fst∗ 𝓤 _ (emp 𝓤)) (walks κs qs a are)))

@@ -1,10 +1,12 @@
 -- `host::ins2651_transmit` meets its contract: the walk of a lent call with no byte, over `transmit`. All that is known of `transmit` is its contract.
 -- Assumes nothing.
+use mathlib.Core.Path.{refl}
 use contract.Running.{givenOf, tables, tablesOf}
 use denote.Triple.Spec.{tripleOf}
 use denote.Triple.Table.{entered, cited}
+use Rattle.ins2651.specs.Ticks.{transmit}
 use Rattle.host.specs.Replies as by-value
-use Rattle.host.proofs.Calls.{Replies, Callee}
+use Rattle.host.proofs.Calls.{Replies, Callee, Promise, Keeps}
 use Rattle.host.proofs.Lent.{meets}
 use Rattle.host.proofs.transmit.Symbol as transmit-def
 use Rattle.host.proofs.transmit.Symbol.{name as #transmit}
@@ -17,10 +19,16 @@ use Rattle.host.proofs.ins2651_transmit.Code as code
 abbrev replies : Replies 0
 replies d xs = by-value.transmit d
 
+abbrev promise : Promise 0
+promise = record { answers = λ d xs. transmit d .level; leaves = λ d xs. transmit d .device }
+
+kept : Keeps 0 replies promise
+kept = record { answer = λ d xs. refl; device = λ d xs. refl }
+
 pub ins2651-transmit-spec : {M : Type 1} → stated.statement M
 unfolding code.routine tablesOf
 ins2651-transmit-spec 𝓤 H 𝓜 𝓖 𝓡 =
     entered 𝓤 H (tripleOf 𝓤 H (𝓖 .A) f.signature (f.spec 𝓤 H (𝓖 .A) (𝓜 .mem) (𝓡 .run)))
     (tables 𝓤 H 𝓜 𝓡 code.env .C) (tables 𝓤 H 𝓜 𝓡 code.env .Λ) #ins2651-transmit code.function (code.unfolded 𝓤 H 𝓜 𝓡)
-    (meets 𝓤 H (𝓖 .A) (givenOf 𝓤 H 𝓜 𝓖) 0 replies (tablesOf 𝓤 H 𝓜 (tables 𝓤 H 𝓜 𝓡 code.env)) #transmit
+    (meets 𝓤 H (𝓖 .A) (givenOf 𝓤 H 𝓜 𝓖) 0 replies promise kept (tablesOf 𝓤 H 𝓜 (tables 𝓤 H 𝓜 𝓡 code.env)) #transmit
     (cited 𝓤 H (Callee 𝓤 H (𝓖 .A) 0 replies) 𝓜 𝓡 code.env #transmit transmit-def.routine code.calls-host·transmit (transmit-thm.met 𝓤 H 𝓜 𝓖 𝓡)))
