@@ -7,9 +7,8 @@ use mathlib.Core.Bool.{Bool, true, _&&_}
 use Rattle.line.specs.Sending.{on}
 use Rattle.line.proofs.Bits.{on-bit}
 use Rattle.link.specs.declared.SenderHalf.{SenderHalf}
-use Rattle.link.specs.declared.ReceiverHalf.{ReceiverHalf}
 use Rattle.ins2651.specs.declared.Device.{Device}
-use Rattle.ins2651.specs.Shape.{withSender, withReceiver, withEmpty}
+use Rattle.ins2651.specs.Shape.{withSender, withReceiver, withHalves, withEmpty}
 use Rattle.ins2651.specs.Modes.{sendFormat, receiveFormat}
 use Rattle.ins2651.specs.Conditions.{transmitting, sending, breaking, receiving}
 use Rattle.ins2651.specs.Pinning.{orSet}
@@ -66,7 +65,7 @@ module _ (d : Device) (m : Bool) (h : 1 ≤ calm d m) where
 pub skips-then : (d : Device) (m : Bool) (k : ℕ) → suc k ≤ calm d m → skipped k (skipped 1 d) ≡ skipped (suc k) d
 unfolding skipped
 skips-then d m k h =
-    ap₂ (λ (s : SenderHalf) (r : ReceiverHalf). record { registers = d .registers; pins = d .pins; sender = s; receiver = r; flags = d .flags })
+    ap₂ (withHalves d)
     (sender-then (d .sender) (sending d) (breaking d) k (omega (arith, halves d m .second))) (receiver-then (d .receiver) k)
 
 -- a device that looks at the next tick has no calm one

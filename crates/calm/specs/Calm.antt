@@ -13,6 +13,7 @@ use Rattle.link.specs.Parts.{withFrame}
 use Rattle.link.specs.Transmitting.{frameAt}
 use Rattle.link.specs.Within.{isNoFormat, restInRange}
 use Rattle.ins2651.specs.declared.Device.{Device}
+use Rattle.ins2651.specs.Shape.{withHalves}
 use Rattle.ins2651.specs.Conditions.{sending, breaking, receiving}
 
 abbrev pub least : ℕ → ℕ → ℕ
@@ -88,11 +89,4 @@ calm d m = least (receiverCalm (d .receiver) (receiving d) m) (senderCalm (d .se
 
 -- what k of them leave of it
 unfoldable pub skipped : ℕ → Device → Device
-skipped k d =
-    record {
-      registers = d .registers;
-      pins = d .pins;
-      sender = senderSkipped k (d .sender);
-      receiver = receiverSkipped k (d .receiver);
-      flags = d .flags;
-    }
+skipped k d = withHalves d (senderSkipped k (d .sender)) (receiverSkipped k (d .receiver))

@@ -14,7 +14,7 @@ use Rattle.ins2651.specs.declared.Flags.{Flags}
 use Rattle.ins2651.specs.declared.Device.{Device}
 use Rattle.ins2651.specs.declared.Outcome.{Outcome}
 use Rattle.ins2651.specs.declared.Ticked.{Ticked}
-use Rattle.ins2651.specs.Shape.{withSender, withReceiver, withEmpty, done, refused, ticked}
+use Rattle.ins2651.specs.Shape.{withSender, withReceiver, withErrors, withEmpty, done, refused, ticked}
 use Rattle.ins2651.specs.Modes.{sendFormat, receiveFormat}
 use Rattle.ins2651.specs.Conditions.{transmitting, sending, breaking, receiving}
 use Rattle.ins2651.specs.Pinning.{orSet}
@@ -48,14 +48,7 @@ received d x = link-hearing.receive (d .receiver) (receiving d) (receiveFormat (
 -- what arrives sets flags and clears none: a stop of 0, a register found unread, a wrong parity
 abbrev pub noted : Flags → Bool → Heard → Flags
 noted f overrun Nothing = f
-noted f overrun (Character a) =
-    record {
-      framing = orSet (a .framing) (f .framing);
-      overrun = orSet overrun (f .overrun);
-      parity = orSet (a .parity) (f .parity);
-      empty = f .empty;
-      change = f .change;
-    }
+noted f overrun (Character a) = withErrors f (orSet (a .framing) (f .framing)) (orSet overrun (f .overrun)) (orSet (a .parity) (f .parity))
 
 abbrev pub receivedBy : Device → Received → Device
 receivedBy d r = withReceiver d (r .half) (noted (d .flags) (r .overrun) (r .heard))

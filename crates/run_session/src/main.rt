@@ -1,7 +1,12 @@
 // Document 01's session program: reads a session from standard input and writes what it answers. What a session is and
-// what it answers is `session`'s; here bytes are only read and written.
-ghost use Prim.Native.Nat.{_≤_, _<_};
-ghost use lib.ListN.{length};
+// what it answers is `session`'s; here bytes are only read and written. How the session goes on is stated where no read and
+// no write failed; what a system call moves stays outside.
+ghost use mathlib.Core.Path.{_≡_};
+ghost use mathlib.Core.Bool.{true, false};
+ghost use lib.ListN.{length, take};
+ghost use Rattle.io.specs.Counts.{clamped};
+ghost use Rattle.rows.specs.Text.{Spoke};
+ghost use Rattle.run_session.specs.Goes.{TookSome, Answered, Fed, lastOf};
 use libc::STDERR_FILENO;
 use libc::STDIN_FILENO;
 use libc::STDOUT_FILENO;
@@ -21,7 +26,9 @@ struct Took {
     written: bool,
 }
 
-fn failed(s: Session) -> Went {
+fn failed(s: Session) -> Went
+    ensures { λ r. ⌜ r .failed ≡ true ⌝ }
+{
     Went {
         session: s,
         more: false,
@@ -29,7 +36,9 @@ fn failed(s: Session) -> Went {
     }
 }
 
-fn unread(s: Session) -> Went {
+fn unread(s: Session) -> Went
+    ensures { λ r. ⌜ r .failed ≡ true ⌝ }
+{
     io::write_all(
         STDERR_FILENO,
         b"session: the input could not be read, so the counts are left out\n",
@@ -37,15 +46,16 @@ fn unread(s: Session) -> Went {
     failed(s)
 }
 
-fn unwritten(s: Session) -> Went {
+fn unwritten(s: Session) -> Went
+    ensures { λ r. ⌜ r .failed ≡ true ⌝ }
+{
     io::write_all(STDERR_FILENO, b"session: the output could not be written\n");
     failed(s)
 }
 
 // The text is written before more is read, so that a line typed at a terminal is answered when it is entered.
 fn feed(s: Session, piece: &[u8]) -> Took
-    ensures { λ r. ⌜ r .used ≤ length (now (piece .entry)) ⌝ }
-    ensures { λ r. ⌜ (0 < length (now (piece .entry)) → 0 < r .used) ⌝ }
+    ensures { λ r. ⌜ TookSome s (now (piece .entry)) r ⌝ }
 {
     let mut out = io::large_buffer();
     let t = session::feed(s, piece, &mut out);
@@ -58,9 +68,11 @@ fn feed(s: Session, piece: &[u8]) -> Took
     }
 }
 
-// Answers a piece of the input; its text may need several buffers. After the last line that is taken no more is read, so
-// that an endless input ends too.
-fn answered(s: Session, piece: &[u8]) -> Went {
+// Answers a piece of the input; its text may need several buffers. No byte is the input's end; after the last line that is
+// taken no more is read, so that an endless input ends too.
+fn answered(s: Session, piece: &[u8]) -> Went
+    ensures { λ r. ⌜ (r .failed ≡ false → Answered s (now (piece .entry)) r) ⌝ }
+{
     let mut session = s;
     let mut from = 0;
     while from < piece.len() {
@@ -74,30 +86,34 @@ fn answered(s: Session, piece: &[u8]) -> Went {
     }
     Went {
         session,
-        more: session.lines < 65535,
+        more: (0 < piece.len()) & (session.lines < 65535),
         failed: false,
     }
 }
 
-fn read(s: Session) -> Went {
-    let mut buf = io::large_buffer();
-    let got = libc::read(STDIN_FILENO, &mut buf);
+// Answers what a read left in the buffer.
+fn after_read(s: Session, got: isize, buf: &[u8]) -> Went
+    ensures { λ r. ⌜ (r .failed ≡ false → Answered s (take (clamped got (length (now (buf .entry)))) (now (buf .entry))) r) ⌝ }
+{
     if got < 0 {
         return unread(s);
     }
-    let n = io::count(got, &buf);
-    if n == 0 {
-        return Went {
-            session: s,
-            more: false,
-            failed: false,
-        };
-    }
+    let n = io::count(got, buf);
     answered(s, &buf[..n])
 }
 
+fn read(s: Session) -> Went
+    ensures { λ r. ⌜ (r .failed ≡ false → Fed s (r .session)) ⌝ }
+{
+    let mut buf = io::large_buffer();
+    let got = libc::read(STDIN_FILENO, &mut buf);
+    after_read(s, got, &buf)
+}
+
 // A proved loop has to end, so this one counts its reads down, from a number that no run uses up.
-fn whole(s: Session) -> Went {
+fn whole(s: Session) -> Went
+    ensures { λ r. ⌜ (r .failed ≡ false → Fed s (r .session)) ⌝ }
+{
     let mut w = Went {
         session: s,
         more: true,
@@ -105,7 +121,7 @@ fn whole(s: Session) -> Went {
     };
     let mut reads = u64::MAX;
     while reads > 0 {
-        if !w.more {
+        if w.failed | !w.more {
             return w;
         }
         w = read(w.session);
@@ -114,12 +130,19 @@ fn whole(s: Session) -> Went {
     w
 }
 
-// The counts are written only where all of the input was answered.
+// The last line and the counts, where all of the input was answered, and else nothing.
+fn ending(w: Went, out: &mut [u8; 64]) -> usize
+    ensures { λ r. ⌜ Spoke (now (out .entry)) (lastOf w) (now (out .exit)) r ⌝ }
+{
+    if w.failed {
+        return 0;
+    }
+    session::finish(w.session, out)
+}
+
 fn main() {
     let w = whole(session::begin());
-    if !w.failed {
-        let mut out = [0u8; 64];
-        let n = session::finish(w.session, &mut out);
-        io::write_all(STDOUT_FILENO, &out[..n]);
-    }
+    let mut out = [0u8; 64];
+    let n = ending(w, &mut out);
+    io::write_all(STDOUT_FILENO, &out[..n]);
 }

@@ -1,4 +1,4 @@
--- `run_session::feed` meets its contract: with 65,536 bytes of room some of the piece is taken, and never more than all.
+-- `run_session::feed` meets its contract: with 65,536 bytes of room some of the piece is taken, and never more than all; the session is that of `session::feed`.
 -- Assumes nothing.
 use Prim.Native.Nat.{_≤_}
 use lib.ListN.{length}
@@ -15,7 +15,11 @@ returns c =
     let room = length (c .before .before .before .before .before .before .large-buffer .result) in
     let enough : 32 ≤ room = omega (arith, c .before .before .before .before .before .before .large-buffer .ensures) in
     let taken = c .before .before .before .before .feed .ensures .0 in
-    (rw taken (taken-few s piece room), λ some. rw taken (takes-some s piece room some enough))
+    record {
+      within = rw taken (taken-few s piece room);
+      some = λ any. rw taken (takes-some s piece room any enough);
+      session = c .before .before .before .before .feed .ensures .1 .0;
+    }
 
 pub feed-spec : {M : Type 1} → statement M
 feed-spec =
