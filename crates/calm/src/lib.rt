@@ -1,17 +1,17 @@
 // Many ticks at once where they only count: document 01, "Sending" and "Receiving", by joined ticks.
-// Every call takes any number in any field: specs/ says what each answers, inside the range and outside.
+// Every call takes any number in any field: `calm_rules` says what each answers, inside the range and outside.
 ghost use mathlib.Core.Path.{_≡_};
 ghost use Prim.Native.Nat.{_-_};
-ghost use Rattle.ins2651.specs.Conditions;
-ghost use Rattle.link.specs.Within.{isNoFormat, restInRange};
-ghost use Rattle.calm.specs.Calm;
-ghost use Rattle.calm.specs.Calm.{placesLeft, senderCalm, senderMarks, receiverCalm};
-use ins2651::Device;
-use line::Format;
-use line::Receiver;
-use link::Frame;
-use link::ReceiverHalf;
-use link::SenderHalf;
+ghost use Rattle.ins2651_rules.specs.Conditions;
+ghost use Rattle.link_rules.specs.Within.{isNoFormat, restInRange};
+ghost use Rattle.calm_rules.specs.Calm;
+ghost use Rattle.calm_rules.specs.Calm.{placesLeft, senderCalm, senderMarks, receiverCalm};
+use ins2651_rules::Device;
+use line_rules::Format;
+use line_rules::Receiver;
+use link_rules::Frame;
+use link_rules::ReceiverHalf;
+use link_rules::SenderHalf;
 
 pub fn least(m: u16, n: u16) -> u16
     ensures { λ r. ⌜ r ≡ Calm.least m n ⌝ }

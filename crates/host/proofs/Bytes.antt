@@ -25,8 +25,8 @@ use denote.Steps.{owned, nothing}
 use denote.Struct.Laws as LL
 use denote.Triple.End.{Fins}
 use denote.Triple.Walked.{AllGo, goes-dropped, fitsOf, hasOf}
-use Rattle.ins2651.proofs.Device as D
-use Rattle.ins2651.proofs.Device.Laws as D′
+use Rattle.ins2651_rules.proofs.Device as D
+use Rattle.ins2651_rules.proofs.Device.Laws as D′
 use Rattle.host.proofs.Reply as R
 use Rattle.host.proofs.Reply.Laws as R′
 use Rattle.host.proofs.Calls.{Bytes, bytes, kept-bytes, numbers, stay-bytes, byte-locals, copies}

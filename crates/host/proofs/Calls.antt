@@ -26,9 +26,9 @@ use denote.Triple.Spec.{tripleOf}
 use denote.Triple.End.{Kepts}
 use denote.Triple.Walked.{Stays, stay-ref, stay-dropped}
 use denote.Triple.Clauses.{Ended, Clauses, ensured, closing, lasts}
-use Rattle.ins2651.specs.declared.Device.{Device}
-use Rattle.ins2651.proofs.Device as D
-use Rattle.ins2651.proofs.Device.Laws as D′
+use Rattle.ins2651_rules.specs.declared.Device.{Device}
+use Rattle.ins2651_rules.proofs.Device as D
+use Rattle.ins2651_rules.proofs.Device.Laws as D′
 use Rattle.host.specs.declared.Reply.{Reply}
 use Rattle.host.proofs.Reply as R
 use Rattle.host.proofs.Reply.Laws as R′

@@ -30,9 +30,9 @@ use denote.Triple.Entry.{Args, Vals, onEntry}
 use denote.Triple.Spec.{Meets}
 use denote.Triple.Walked.{says, walkOf, goes-ref, ends-at, walked, walk-meets, hasOf}
 use denote.Triple.Clauses.{closing}
-use Rattle.ins2651.specs.declared.Device.{Device}
-use Rattle.ins2651.proofs.Device as D
-use Rattle.ins2651.proofs.Device.Laws as D′
+use Rattle.ins2651_rules.specs.declared.Device.{Device}
+use Rattle.ins2651_rules.proofs.Device as D
+use Rattle.ins2651_rules.proofs.Device.Laws as D′
 use Rattle.host.specs.declared.Reply.{Reply}
 use Rattle.host.proofs.Reply as R
 use Rattle.host.proofs.Reply.Laws as R′

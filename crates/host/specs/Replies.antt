@@ -1,16 +1,16 @@
 -- What each call of a lent device answers and leaves behind the reference, by the by-value calls of `ins2651`.
 -- Assumes nothing.
 use Prim.Native.Nat.{ℕ, _+_, _*_, _/_, _%_}
-use Rattle.ins2651.specs.declared.Device.{Device}
-use Rattle.ins2651.specs.declared.Answer.{Answer}
-use Rattle.ins2651.specs.declared.Outcome.{Outcome}
-use Rattle.ins2651.specs.declared.OutputPins.{OutputPins}
-use Rattle.ins2651.specs.Shape.{resetDevice}
-use Rattle.ins2651.specs.RegisterReads as RegisterReads
-use Rattle.ins2651.specs.RegisterWrites as RegisterWrites
-use Rattle.ins2651.specs.Pinning as Pinning
-use Rattle.ins2651.specs.Ticks as Ticks
-use Rattle.ins2651.specs.Status as Status
+use Rattle.ins2651_rules.specs.declared.Device.{Device}
+use Rattle.ins2651_rules.specs.declared.Answer.{Answer}
+use Rattle.ins2651_rules.specs.declared.Outcome.{Outcome}
+use Rattle.ins2651_rules.specs.declared.OutputPins.{OutputPins}
+use Rattle.ins2651_rules.specs.Shape.{resetDevice}
+use Rattle.ins2651_rules.specs.RegisterReads as RegisterReads
+use Rattle.ins2651_rules.specs.RegisterWrites as RegisterWrites
+use Rattle.ins2651_rules.specs.Pinning as Pinning
+use Rattle.ins2651_rules.specs.Ticks as Ticks
+use Rattle.ins2651_rules.specs.Status as Status
 use Rattle.host.specs.declared.Reply.{Reply}
 
 -- a read as one number: 256 times the refusal, and the value

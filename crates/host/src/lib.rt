@@ -2,16 +2,16 @@
 // Whatever bytes the host lends, the call is the by-value call of `ins2651` on them; a refused call hands them back as they were.
 ghost use mathlib.Core.Path.{_≡_};
 ghost use denote.Ref.{now};
-ghost use Rattle.ins2651.specs.Shape.{resetDevice};
-ghost use Rattle.ins2651.specs.RegisterReads;
-ghost use Rattle.ins2651.specs.RegisterWrites;
-ghost use Rattle.ins2651.specs.Pinning.{setPins};
-ghost use Rattle.ins2651.specs.Ticks;
-ghost use Rattle.ins2651.specs.Status;
+ghost use Rattle.ins2651_rules.specs.Shape.{resetDevice};
+ghost use Rattle.ins2651_rules.specs.RegisterReads;
+ghost use Rattle.ins2651_rules.specs.RegisterWrites;
+ghost use Rattle.ins2651_rules.specs.Pinning.{setPins};
+ghost use Rattle.ins2651_rules.specs.Ticks;
+ghost use Rattle.ins2651_rules.specs.Status;
 ghost use Rattle.host.specs.Replies;
 ghost use Rattle.host.specs.Replies.{word, levels};
-use ins2651::Device;
-use ins2651::Outcome;
+use ins2651_rules::Device;
+use ins2651_rules::Outcome;
 
 // A call by value: its answer as one number, and the device after it.
 #[repr(C)]

@@ -2,104 +2,39 @@
 // Every call takes any number in any field. A device out of range is taken as one just reset; a refused call hands it back as given.
 ghost use mathlib.Core.Path.{_≡_};
 ghost use Prim.Native.Nat.{_≤_};
-ghost use Rattle.line.specs.Sending.{bit};
-ghost use Rattle.ins2651.specs.Shape;
-ghost use Rattle.ins2651.specs.Shape.{resetDevice, refusedRead, refused};
-ghost use Rattle.ins2651.specs.Modes;
-ghost use Rattle.ins2651.specs.Modes.{factorOf, stopOf, formatOf, sendFormat, receiveFormat};
-ghost use Rattle.ins2651.specs.Conditions;
-ghost use Rattle.ins2651.specs.Conditions.{dataSetReady, clearToSend, modeSet, mayWrite};
-ghost use Rattle.ins2651.specs.Status;
-ghost use Rattle.ins2651.specs.Status.{modemBits, errorBits, readyBits, statusByte, outputsOf};
-ghost use Rattle.ins2651.specs.Ranges.{mode1InRange, commandInRange, registersInRange, pinsInRange, flagsInRange, inRange, settled};
-ghost use Rattle.ins2651.specs.Refusals.{readRefusal, mode1Refusal, modeRefusal, commandRefusal, writeRefusal, pinsRefusal, levelRefusal};
-ghost use Rattle.ins2651.specs.RegisterReads;
-ghost use Rattle.ins2651.specs.RegisterReads.{readHolding, readStatus, readMode, readCommand, readRegister};
-ghost use Rattle.ins2651.specs.RegisterWrites;
-ghost use Rattle.ins2651.specs.RegisterWrites.{writeHolding, synsWritten, writeSyn, modesWritten, writeMode, flagsCommanded, receiverCommanded, writeCommand, writeRegister};
-ghost use Rattle.ins2651.specs.Pinning.{setPins};
-ghost use Rattle.ins2651.specs.Pinning;
-ghost use Rattle.ins2651.specs.Ticks;
-ghost use Rattle.ins2651.specs.Ticks.{sentBy, transmitTick, receivedBy, receiveTick};
-use line::Format;
-use line::Heard;
-use link::Received;
-use link::ReceiverHalf;
-use link::SenderHalf;
-use link::Sent;
-
-// `accepted` is 1 once a mode 1 was accepted since reset; `modes` and `syns` are the two pointers.
-#[repr(C)]
-pub struct Registers {
-    pub mode1: u8,
-    pub mode2: u8,
-    pub accepted: u8,
-    pub command: u8,
-    pub syn1: u8,
-    pub syn2: u8,
-    pub dle: u8,
-    pub modes: u8,
-    pub syns: u8,
-}
-
-// The levels of the three modem inputs.
-#[repr(C)]
-pub struct Pins {
-    pub dsr: u8,
-    pub dcd: u8,
-    pub cts: u8,
-}
-
-// The three error flags, the empty-mark and the change-mark.
-#[repr(C)]
-pub struct Flags {
-    pub framing: u8,
-    pub overrun: u8,
-    pub parity: u8,
-    pub empty: u8,
-    pub change: u8,
-}
-
-#[repr(C)]
-pub struct Device {
-    pub registers: Registers,
-    pub pins: Pins,
-    pub sender: SenderHalf,
-    pub receiver: ReceiverHalf,
-    pub flags: Flags,
-}
-
-// What a register read answers.
-#[repr(C)]
-pub struct Answer {
-    pub refusal: u8,
-    pub value: u8,
-    pub device: Device,
-}
-
-// What a register write, a pin call or a receive tick answers.
-#[repr(C)]
-pub struct Outcome {
-    pub refusal: u8,
-    pub device: Device,
-}
-
-// What a transmit tick answers: the level sent.
-#[repr(C)]
-pub struct Ticked {
-    pub level: u8,
-    pub device: Device,
-}
-
-// The levels of the five outputs.
-#[repr(C)]
-pub struct OutputPins {
-    pub txrdy: u8,
-    pub rxrdy: u8,
-    pub txemt: u8,
-    pub dtr: u8,
-    pub rts: u8,
-}
+ghost use Rattle.line_rules.specs.Sending.{bit};
+ghost use Rattle.ins2651_rules.specs.Shape;
+ghost use Rattle.ins2651_rules.specs.Shape.{resetDevice, refusedRead, refused};
+ghost use Rattle.ins2651_rules.specs.Modes;
+ghost use Rattle.ins2651_rules.specs.Modes.{factorOf, stopOf, formatOf, sendFormat, receiveFormat};
+ghost use Rattle.ins2651_rules.specs.Conditions;
+ghost use Rattle.ins2651_rules.specs.Conditions.{dataSetReady, clearToSend, modeSet, mayWrite};
+ghost use Rattle.ins2651_rules.specs.Status;
+ghost use Rattle.ins2651_rules.specs.Status.{modemBits, errorBits, readyBits, statusByte, outputsOf};
+ghost use Rattle.ins2651_rules.specs.Ranges.{mode1InRange, commandInRange, registersInRange, pinsInRange, flagsInRange, inRange, settled};
+ghost use Rattle.ins2651_rules.specs.Refusals.{readRefusal, mode1Refusal, modeRefusal, commandRefusal, writeRefusal, pinsRefusal, levelRefusal};
+ghost use Rattle.ins2651_rules.specs.RegisterReads;
+ghost use Rattle.ins2651_rules.specs.RegisterReads.{readHolding, readStatus, readMode, readCommand, readRegister};
+ghost use Rattle.ins2651_rules.specs.RegisterWrites;
+ghost use Rattle.ins2651_rules.specs.RegisterWrites.{writeHolding, synsWritten, writeSyn, modesWritten, writeMode, flagsCommanded, receiverCommanded, writeCommand, writeRegister};
+ghost use Rattle.ins2651_rules.specs.Pinning.{setPins};
+ghost use Rattle.ins2651_rules.specs.Pinning;
+ghost use Rattle.ins2651_rules.specs.Ticks;
+ghost use Rattle.ins2651_rules.specs.Ticks.{sentBy, transmitTick, receivedBy, receiveTick};
+use ins2651_rules::Answer;
+use ins2651_rules::Device;
+use ins2651_rules::Flags;
+use ins2651_rules::Outcome;
+use ins2651_rules::OutputPins;
+use ins2651_rules::Pins;
+use ins2651_rules::Registers;
+use ins2651_rules::Ticked;
+use line_rules::Format;
+use line_rules::Heard;
+use link_rules::Received;
+use link_rules::ReceiverHalf;
+use link_rules::SenderHalf;
+use link_rules::Sent;
 
 // == bits ==
 

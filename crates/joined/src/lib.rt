@@ -2,26 +2,12 @@
 // Every call takes any number in any field, and none is refused. A device out of range is taken as one just reset.
 ghost use mathlib.Core.Path.{_≡_};
 ghost use Prim.Native.Nat.{_≤_};
-ghost use Rattle.joined.specs.Joining;
-ghost use Rattle.joined.specs.Joining.{settledPair, joinedTick, joinedTicks, ticks};
-ghost use Rattle.joined.specs.Skipping.{calmTicks};
-use ins2651::Device;
-use ins2651::Ticked;
-
-// The device `a` at one end of the line and `b` at the other.
-#[repr(C)]
-pub struct Pair {
-    pub a: Device,
-    pub b: Device,
-}
-
-// What a joined tick answers: the pair after it, and the level that each device sent.
-#[repr(C)]
-pub struct Joined {
-    pub pair: Pair,
-    pub a: u8,
-    pub b: u8,
-}
+ghost use Rattle.joined_rules.specs.Joining;
+ghost use Rattle.joined_rules.specs.Joining.{settledPair, joinedTick, joinedTicks, ticks};
+ghost use Rattle.joined_rules.specs.Skipping.{calmTicks};
+use ins2651_rules::Ticked;
+use joined_rules::Joined;
+use joined_rules::Pair;
 
 fn settle(p: Pair) -> Pair
     ensures { λ r. ⌜ r ≡ settledPair p ⌝ }

@@ -5,9 +5,9 @@ use native.Mathlib.Numerals.{add-one}
 use native.Mathlib.Omega.{arith}
 use mathlib.Core.Path.{_≡_, refl, ap, sym, _∙_}
 use mathlib.Core.Bool.{Bool, true}
-use Rattle.line.specs.declared.Format.{Format}
-use Rattle.line.specs.Sending.{part, dataLevel, parityLevel, levelOf, level}
-use Rattle.line.specs.Receiving.{assembling, quiet, lookNext, withBit, parityLook, stopLook, lookAt, under}
+use Rattle.line_rules.specs.declared.Format.{Format}
+use Rattle.line_rules.specs.Sending.{part, dataLevel, parityLevel, levelOf, level}
+use Rattle.line_rules.specs.Receiving.{assembling, quiet, lookNext, withBit, parityLook, stopLook, lookAt, under}
 
 less-one : (m : ℕ) → suc m - 1 ≡ m
 less-one m = omega arith

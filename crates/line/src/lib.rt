@@ -1,53 +1,19 @@
 // What a frame is on the line, and what arrives from it: document 01, "Sending" and "Receiving".
-// Every call takes any number in any field: specs/ says what each answers, inside the range and outside.
+// Every call takes any number in any field: `line_rules` says what each answers, inside the range and outside.
 ghost use mathlib.Core.Path.{_≡_};
 ghost use Prim.Native.Nat.{_-_, _^_, _/_, _%_, _≤_};
-ghost use Rattle.line.specs.Sending;
-ghost use Rattle.line.specs.Sending.{bit, parityBits, beforeStop, frameLength, stopSample, parityBit, bitAt, dataLevel, parityLevel};
-ghost use Rattle.line.specs.Range.{isFactor, isStop, isLength, inRange};
-ghost use Rattle.line.specs.Receiving;
-ghost use Rattle.line.specs.Receiving.{atRest, afterMark, lookNext, withBit, startLook, parityLook, stopLook, lookAt};
+ghost use Rattle.line_rules.specs.Sending;
+ghost use Rattle.line_rules.specs.Sending.{bit, parityBits, beforeStop, frameLength, stopSample, parityBit, bitAt, dataLevel, parityLevel};
+ghost use Rattle.line_rules.specs.Range.{isFactor, isStop, isLength, inRange};
+ghost use Rattle.line_rules.specs.Receiving;
+ghost use Rattle.line_rules.specs.Receiving.{atRest, afterMark, lookNext, withBit, startLook, parityLook, stopLook, lookAt};
+use line_rules::Arrival;
+use line_rules::Format;
+use line_rules::Heard;
+use line_rules::Receiver;
+use line_rules::Sampled;
 
 mod parity;
-
-// How a character is sent: factor F, length n, parity (0: none), even (0: odd), stop ticks S.
-#[repr(C)]
-pub struct Format {
-    pub factor: u8,
-    pub length: u8,
-    pub parity: u8,
-    pub even: u8,
-    pub stop: u8,
-}
-
-// The receiver between two samples: phase 0 waits for a 1, 1 searches for a 0, 2 has a character under way. That one has
-// `countdown` ticks before its next look, that look's number, the value so far and 1 where its parity was wrong.
-#[repr(C)]
-pub struct Receiver {
-    pub phase: u8,
-    pub countdown: u8,
-    pub value: u8,
-    pub wrong: u8,
-    pub look: u16,
-}
-
-// A character as it arrives: whether its parity was wrong, and whether its stop sample was 0.
-pub struct Arrival {
-    pub value: u8,
-    pub parity: bool,
-    pub framing: bool,
-}
-
-pub enum Heard {
-    Nothing,
-    Character(Arrival),
-}
-
-// What one sample leaves, and what it brought.
-pub struct Sampled {
-    pub next: Receiver,
-    pub heard: Heard,
-}
 
 fn wide(x: u8) -> u16
     ensures { λ r. ⌜ (r ≡ x) × (r ≤ 255) ⌝ }

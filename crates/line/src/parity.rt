@@ -1,6 +1,6 @@
 // The parity of each of the 256 byte values: 1 where the byte has an odd number of ones.
 ghost use mathlib.Core.Path.{_≡_};
-ghost use Rattle.line.specs.Sending.{oddOnes};
+ghost use Rattle.line_rules.specs.Sending.{oddOnes};
 
 const ODD: [u8; 256] = [
     0, // 0

@@ -1,60 +1,23 @@
 // The two double-buffered halves that every chip has: document 01, "Sending" and "Receiving".
-// Every call takes any number in any field: specs/ says what each answers, inside the range and outside.
+// Every call takes any number in any field: `link_rules` says what each answers, inside the range and outside.
 ghost use mathlib.Core.Path.{_≡_};
 ghost use Prim.Native.Nat.{suc, _+_, _-_, _^_};
 ghost use lib.Dec.{ltb};
-ghost use Rattle.line.specs.Sending.{parityBits};
-ghost use Rattle.link.specs.Parts.{noFormat, noFrame, idleSender, loaded, unloaded, idleReceiver, dropped, emptied};
-ghost use Rattle.link.specs.Transmitting;
-ghost use Rattle.link.specs.Transmitting.{nextPlace, frameNext, frameTick, beginTick, idleTick, breakTick, markTick};
-ghost use Rattle.link.specs.Hearing;
-ghost use Rattle.link.specs.Hearing.{underWay, formatFor, keptFormat, stepped, holds};
-ghost use Rattle.link.specs.Within.{isNoFormat, holdingInRange, busyInRange, freeInRange, frameInRange, senderInRange, countdownInRange, valueInRange, wrongInRange, assemblyInRange, restInRange, stateInRange, receiverInRange};
-use line::Format;
-use line::Heard;
-use line::Receiver;
-use line::Sampled;
-
-// A frame under way: its character, the format that it began with, and the place of its next tick. All 0: none.
-#[repr(C)]
-pub struct Frame {
-    pub character: u8,
-    pub format: Format,
-    pub place: u16,
-}
-
-// The sending half: the frame under way, the character that waits (where `full` is 1), and the guard that a break left.
-#[repr(C)]
-pub struct SenderHalf {
-    pub frame: Frame,
-    pub holding: u8,
-    pub full: u8,
-    pub guard: u8,
-}
-
-// The receiving half: the receiver, the format of the character under way, and the character last held, unread or not.
-#[repr(C)]
-pub struct ReceiverHalf {
-    pub state: Receiver,
-    pub format: Format,
-    pub holding: u8,
-    pub unread: u8,
-}
-
-// What a transmit tick leaves and sends; whether it was a frame's first; whether it ended a frame with nothing waiting.
-pub struct Sent {
-    pub half: SenderHalf,
-    pub level: bool,
-    pub began: bool,
-    pub drained: bool,
-}
-
-// What a receive tick leaves and brings, and whether that found the holding register unread.
-pub struct Received {
-    pub half: ReceiverHalf,
-    pub heard: Heard,
-    pub overrun: bool,
-}
+ghost use Rattle.line_rules.specs.Sending.{parityBits};
+ghost use Rattle.link_rules.specs.Parts.{noFormat, noFrame, idleSender, loaded, unloaded, idleReceiver, dropped, emptied};
+ghost use Rattle.link_rules.specs.Transmitting;
+ghost use Rattle.link_rules.specs.Transmitting.{nextPlace, frameNext, frameTick, beginTick, idleTick, breakTick, markTick};
+ghost use Rattle.link_rules.specs.Hearing;
+ghost use Rattle.link_rules.specs.Hearing.{underWay, formatFor, keptFormat, stepped, holds};
+ghost use Rattle.link_rules.specs.Within.{isNoFormat, holdingInRange, busyInRange, freeInRange, frameInRange, senderInRange, countdownInRange, valueInRange, wrongInRange, assemblyInRange, restInRange, stateInRange, receiverInRange};
+use line_rules::Format;
+use line_rules::Heard;
+use line_rules::Receiver;
+use link_rules::Frame;
+use link_rules::Received;
+use link_rules::ReceiverHalf;
+use link_rules::SenderHalf;
+use link_rules::Sent;
 
 fn no_format() -> Format
     ensures { λ r. ⌜ r ≡ noFormat ⌝ }

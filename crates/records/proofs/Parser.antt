@@ -10,8 +10,8 @@ use native.Mathlib.Nat.{mod-eq-of-lt, mod-lt}
 use borrow.Author.Tests.{lt-ltb, le-leb, ne-eqb, ltb-true, leb-true, eqb-true}
 use lib.Dec.{ltb, leb, eqb}
 use lib.ListN.{length, length-append}
-use Rattle.line.proofs.Choice.{each, all}
-use Rattle.line.proofs.Table.{both}
+use Rattle.line_rules.proofs.Choice.{each, all}
+use Rattle.line_rules.proofs.Table.{both}
 use Rattle.fields.specs.Parted.{parts, onFirst, none, numeral, numberOf, letterOf, fieldOf, fieldsOf}
 use Rattle.fields.proofs.Gathered.{onto, onto-first, onto-none}
 use Rattle.fields.proofs.Numerals.{length-numeral, reads-numeral, number-is}

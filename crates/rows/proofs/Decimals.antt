@@ -9,7 +9,7 @@ use native.Mathlib.Nat.{pow-suc}
 use borrow.Author.Tests.{lt-ltb, le-ltb, ltb-true, ltb-false}
 use lib.Dec.{ltb}
 use lib.ListN.{length, length-append, getD}
-use Rattle.line.proofs.Choice.{each}
+use Rattle.line_rules.proofs.Choice.{each}
 use Rattle.fields.specs.Parted.{numeral}
 use Rattle.rows.specs.declared.Row.{Row}
 use Rattle.rows.specs.declared.Row.the-variants.{Nothing, Value, Refusal, Counts}

@@ -1,12 +1,12 @@
 // Document 01's bench cases that are run, on one device and on two joined, and recordings drawn at random, read by the receiver; all
 // written out for comparison.
-use ins2651::Device;
-use joined::Pair;
+use ins2651_rules::Device;
+use joined_rules::Pair;
 use libc::STDOUT_FILENO;
-use line::Arrival;
-use line::Format;
-use line::Heard;
-use line::Receiver;
+use line_rules::Arrival;
+use line_rules::Format;
+use line_rules::Heard;
+use line_rules::Receiver;
 
 // A recording while it is read: the samples so far, the characters that came and a sum over them. `list` writes out each.
 struct Bench {
@@ -321,7 +321,7 @@ fn hear(d: Device, x: u8, n: u32) -> Device {
 // A frame of eight bits at one tick a bit.
 fn hear_frame(d: Device, c: u8) -> Device {
     let mut next = d;
-    let f = line::Format {
+    let f = line_rules::Format {
         factor: 1,
         length: 8,
         parity: 0,

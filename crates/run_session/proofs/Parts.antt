@@ -6,9 +6,9 @@ use mathlib.Core.Path.{_≡_, sym, ap, _∙_}
 use mathlib.Core.List.{List, _++_}
 use lib.ListN.{length, take, drop, length-drop}
 use lib.Seq.{length-take-le, take-take, take-add}
-use Rattle.session.specs.declared.Session.{Session}
-use Rattle.session.specs.Bytes.{afterAll}
-use Rattle.session.proofs.Feeding.{after-append}
+use Rattle.session_rules.specs.declared.Session.{Session}
+use Rattle.session_rules.specs.Bytes.{afterAll}
+use Rattle.session_rules.proofs.Feeding.{after-append}
 use Rattle.run_session.specs.declared.Went.{Went}
 use Rattle.run_session.specs.Goes.{Answered, Fed}
 

@@ -6,8 +6,8 @@ use mathlib.Core.Bool.{cond, _&&_}
 use mathlib.Core.List.{List, []}
 use lib.Dec.{ltb}
 use lib.ListN.{length, take}
-use Rattle.session.specs.declared.Session.{Session}
-use Rattle.session.specs.Bytes.{goesOn, afterAll, lastSaid}
+use Rattle.session_rules.specs.declared.Session.{Session}
+use Rattle.session_rules.specs.Bytes.{goesOn, afterAll, lastSaid}
 use Rattle.run_session.specs.declared.Took.{Took}
 use Rattle.run_session.specs.declared.Went.{Went}
 

@@ -10,7 +10,7 @@ ghost use Rattle.run_session.specs.Goes.{TookSome, Answered, Fed, lastOf
 use libc::STDERR_FILENO;
 use libc::STDIN_FILENO;
 use libc::STDOUT_FILENO;
-use session::Session;
+use session_rules::Session;
 
 // The session so far: whether more of the input is wanted, and whether reading or writing failed.
 struct Went {

@@ -5,38 +5,16 @@ ghost use mathlib.Core.Path.{_≡_};
 ghost use Prim.Native.Nat.{_+_, _≤_, _<_};
 ghost use lib.ListN.{length, take};
 ghost use Rattle.rows.specs.Text.{Put, Spoke};
-ghost use Rattle.session.specs.Calls;
-ghost use Rattle.session.specs.Bytes;
-use fields::Fields;
-use ins2651::Device;
-use ins2651::Outcome;
-use joined::Pair;
+ghost use Rattle.session_rules.specs.Calls;
+ghost use Rattle.session_rules.specs.Bytes;
+use ins2651_rules::Device;
+use ins2651_rules::Outcome;
+use joined_rules::Pair;
 use records::Record;
 use rows::Row;
-
-// What is said of a line: nothing where it is done, unit, address and value of a read, or the number of its refusal.
-pub enum Said {
-    Nothing,
-    Value(u8, u8, u8),
-    Refusal(u8),
-}
-
-// What a line does: the pair after it, and what is said.
-pub struct Reply {
-    pub pair: Pair,
-    pub said: Said,
-}
-
-// A session between two bytes: the two devices, the lines taken and those of them refused, and the line under way: its
-// length, where 65 says over 64, and its fields.
-#[repr(C)]
-pub struct Session {
-    pub pair: Pair,
-    pub lines: u16,
-    pub refusals: u16,
-    pub length: u8,
-    pub fields: Fields,
-}
+use session_rules::Reply;
+use session_rules::Said;
+use session_rules::Session;
 
 // The session after a byte, and where the text ends.
 pub struct Turn {

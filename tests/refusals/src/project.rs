@@ -94,7 +94,8 @@ pub fn table(edits: &[Edit]) -> String {
             if !program.falls.is_empty() {
                 at = format!("{at}; with it falls {}", code(&program.falls));
             }
-            let kind = if program.is_alike() { "both: " } else { "" };
+            // where the crate has no code, a wrong definition stands by itself
+            let kind = if program.is_alike() && !edit.crate_name.ends_with("_rules") { "both: " } else { "" };
             rows.push(format!("| `{}/{}` | {kind}{} | {at} |\n", edit.crate_name, program.name, program.wrong.replace('|', "\\|")));
         }
     }

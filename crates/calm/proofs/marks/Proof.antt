@@ -1,7 +1,7 @@
 -- `calm::marks` meets its contract. The sending half's, by the device's conditions.
 -- Assumes nothing.
 use borrow.Author.Needs.{needs}
-use Rattle.calm.specs.Calm.{marks}
+use Rattle.calm_rules.specs.Calm.{marks}
 use Rattle.calm.proofs.marks.Statement.{statement}
 use Rattle.calm.proofs.marks.Tie as tie
 

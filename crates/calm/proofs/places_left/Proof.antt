@@ -1,7 +1,7 @@
 -- `calm::places_left` meets its contract. Against the frame's length, in 16 bits.
 -- Assumes nothing.
 use borrow.Author.Needs.{needs}
-use Rattle.calm.proofs.Branches.{left-none, left-cut, left-all}
+use Rattle.calm_rules.proofs.Branches.{left-none, left-cut, left-all}
 use Rattle.calm.proofs.places_left.Statement.{statement}
 use Rattle.calm.proofs.places_left.Tie as tie
 

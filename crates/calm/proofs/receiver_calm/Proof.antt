@@ -2,7 +2,7 @@
 -- Assumes nothing.
 use borrow.Author.Needs.{needs}
 use borrow.Author.Tests.{eq-eqb, ne-eqb}
-use Rattle.calm.specs.Calm.{receiverCalm}
+use Rattle.calm_rules.specs.Calm.{receiverCalm}
 use Rattle.calm.proofs.receiver_calm.Statement.{statement}
 use Rattle.calm.proofs.receiver_calm.Tie as tie
 

@@ -2,7 +2,7 @@
 -- Assumes nothing.
 use borrow.Author.Needs.{needs}
 use borrow.Author.Tests.{lt-ltb, le-ltb}
-use Rattle.calm.specs.Calm.{senderCalm}
+use Rattle.calm_rules.specs.Calm.{senderCalm}
 use Rattle.calm.proofs.sender_calm.Statement.{statement}
 use Rattle.calm.proofs.sender_calm.Tie as tie
 

@@ -1,7 +1,7 @@
 -- `calm::skip` meets its contract. The calls' results put together.
 -- Assumes nothing.
 use borrow.Author.Needs.{needs}
-use Rattle.calm.specs.Calm.{skipped}
+use Rattle.calm_rules.specs.Calm.{skipped}
 use Rattle.calm.proofs.skip.Statement.{statement}
 use Rattle.calm.proofs.skip.Tie as tie
 

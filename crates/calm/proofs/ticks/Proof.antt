@@ -1,8 +1,8 @@
 -- `calm::ticks` meets its contract. The lesser of both halves' counts.
 -- Assumes nothing.
 use borrow.Author.Needs.{needs}
-use Rattle.calm.specs.Calm.{calm}
-use Rattle.calm.proofs.Branches.{none-heard}
+use Rattle.calm_rules.specs.Calm.{calm}
+use Rattle.calm_rules.proofs.Branches.{none-heard}
 use Rattle.calm.proofs.ticks.Statement.{statement}
 use Rattle.calm.proofs.ticks.Tie as tie
 

@@ -1,8 +1,8 @@
 -- `joined::calm_ticks` meets its contract: the lesser of both devices' counts, and none where a look comes next.
 -- Assumes nothing.
 use borrow.Author.Needs.{needs}
-use Rattle.joined.specs.Skipping.{calmTicks}
-use Rattle.joined.proofs.Skips.{none-calm, looks-next}
+use Rattle.joined_rules.specs.Skipping.{calmTicks}
+use Rattle.joined_rules.proofs.Skips.{none-calm, looks-next}
 use Rattle.joined.proofs.calm_ticks.Statement.{statement}
 use Rattle.joined.proofs.calm_ticks.Tie as tie
 

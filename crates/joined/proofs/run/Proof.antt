@@ -4,8 +4,8 @@ use native.Mathlib.Omega.{arith}
 use mathlib.Core.Path.{_≡_, ap, sym, _∙_}
 use Prim.Native.Nat.{ℕ}
 use borrow.Author.Needs.{needs}
-use Rattle.joined.specs.Joining.{ticks, joinedTicks}
-use Rattle.joined.proofs.Runs.{settled-ticks}
+use Rattle.joined_rules.specs.Joining.{ticks, joinedTicks}
+use Rattle.joined_rules.proofs.Runs.{settled-ticks}
 use Rattle.joined.proofs.run.Statement.{statement}
 use Rattle.joined.proofs.run.Tie as tie
 

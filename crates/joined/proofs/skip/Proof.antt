@@ -2,7 +2,7 @@
 -- Assumes nothing.
 use native.Mathlib.Omega.{arith}
 use borrow.Author.Needs.{needs}
-use Rattle.joined.proofs.Skips.{skips}
+use Rattle.joined_rules.proofs.Skips.{skips}
 use Rattle.joined.proofs.skip.Statement.{statement}
 use Rattle.joined.proofs.skip.Tie as tie
 

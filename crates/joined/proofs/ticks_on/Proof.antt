@@ -4,11 +4,11 @@ use Prim.Native.Nat.{_-_}
 use native.Mathlib.Omega.{arith}
 use mathlib.Core.Path.{_≡_, refl, ap, sym, _∙_}
 use borrow.Author.Needs.{needs}
-use Rattle.joined.specs.declared.Joined.{Joined}
-use Rattle.joined.specs.Joining.{joinedTick, joinedTicks}
-use Rattle.calm.proofs.Branches.{least-is}
-use Rattle.joined.proofs.Runs.{none-left}
-use Rattle.joined.proofs.Skips.{turn-less}
+use Rattle.joined_rules.specs.declared.Joined.{Joined}
+use Rattle.joined_rules.specs.Joining.{joinedTick, joinedTicks}
+use Rattle.calm_rules.proofs.Branches.{least-is}
+use Rattle.joined_rules.proofs.Runs.{none-left}
+use Rattle.joined_rules.proofs.Skips.{turn-less}
 use Rattle.joined.proofs.ticks_on.Statement.{statement}
 use Rattle.joined.proofs.ticks_on.Tie as tie
 

@@ -4,8 +4,8 @@ use borrow.Author.Needs.{needs}
 use native.Mathlib.Omega.{arith}
 use mathlib.Core.Path.{_≡_, ap₂}
 use Prim.Native.Nat.{suc, _+_, _*_}
-use Rattle.line.specs.Sending.{parityBits}
-use Rattle.line.proofs.Bytes.{product-fits}
+use Rattle.line_rules.specs.Sending.{parityBits}
+use Rattle.line_rules.proofs.Bytes.{product-fits}
 use Rattle.line.proofs.before_stop.Statement.{statement}
 use Rattle.line.proofs.before_stop.Tie as tie
 

@@ -1,7 +1,7 @@
 -- `line::bit_at` meets its contract. A byte has no bit from the eighth on.
 -- Assumes nothing.
 use borrow.Author.Needs.{needs}
-use Rattle.line.proofs.Bytes.{no-bit}
+use Rattle.line_rules.proofs.Bytes.{no-bit}
 use Rattle.line.proofs.bit_at.Statement.{statement}
 use Rattle.line.proofs.bit_at.Tie as tie
 

@@ -5,7 +5,7 @@ use Prim.Native.Nat.{ℕ, _%_}
 use borrow.Author.Needs.{needs}
 use native.Mathlib.Omega.{arith}
 use lib.Pow.{pow-pos}
-use Rattle.line.proofs.Bytes.{shifted, cut-whole}
+use Rattle.line_rules.proofs.Bytes.{shifted, cut-whole}
 use Rattle.line.proofs.cut.Statement.{statement}
 use Rattle.line.proofs.cut.Tie as tie
 

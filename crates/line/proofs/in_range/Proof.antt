@@ -1,7 +1,7 @@
 -- `line::in_range` meets its contract. The code's tests are the definition's.
 -- Assumes nothing.
 use borrow.Author.Needs.{needs}
-use Rattle.line.specs.Range.{inRange}
+use Rattle.line_rules.specs.Range.{inRange}
 use Rattle.line.proofs.in_range.Statement.{statement}
 use Rattle.line.proofs.in_range.Tie as tie
 

@@ -1,7 +1,7 @@
 -- `line::parity_bit` meets its contract. Even parity is the table's entry, odd parity its opposite.
 -- Assumes nothing.
 use borrow.Author.Needs.{needs}
-use Rattle.line.specs.Sending.{parityBit}
+use Rattle.line_rules.specs.Sending.{parityBit}
 use borrow.Author.Tests.{lt-ltb, le-ltb}
 use Rattle.line.proofs.parity_bit.Statement.{statement}
 use Rattle.line.proofs.parity_bit.Tie as tie

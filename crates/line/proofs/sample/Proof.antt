@@ -2,7 +2,7 @@
 -- Assumes nothing.
 use borrow.Author.Needs.{needs}
 use borrow.Author.Tests.{eq-eqb, ne-eqb}
-use Rattle.line.specs.Receiving.{sample}
+use Rattle.line_rules.specs.Receiving.{sample}
 use Rattle.line.proofs.sample.Statement.{statement}
 use Rattle.line.proofs.sample.Tie as tie
 

@@ -4,7 +4,7 @@ use borrow.Author.Needs.{needs}
 use mathlib.Core.Path.{ap}
 use Prim.Native.Nat.{ℕ, _%_}
 use native.Mathlib.Nat.{one-mul}
-use Rattle.line.proofs.Bytes.{no-weight}
+use Rattle.line_rules.proofs.Bytes.{no-weight}
 use Rattle.line.proofs.weight.Statement.{statement}
 use Rattle.line.proofs.weight.Tie as tie
 

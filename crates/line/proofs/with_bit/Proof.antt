@@ -2,7 +2,7 @@
 -- Assumes nothing.
 use borrow.Author.Needs.{needs}
 use mathlib.Core.Path.{_∙_}
-use Rattle.line.proofs.Bytes.{bit-added, bit-left}
+use Rattle.line_rules.proofs.Bytes.{bit-added, bit-left}
 use Rattle.line.proofs.with_bit.Statement.{statement}
 use Rattle.line.proofs.with_bit.Tie as tie
 

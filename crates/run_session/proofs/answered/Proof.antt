@@ -8,7 +8,7 @@ use native.Mathlib.Omega.{arith}
 use native.Mathlib.Nat.{lt-of-le-of-lt}
 use lib.ListN.{length, take}
 use lib.Seq.{take-all}
-use Rattle.session.specs.Bytes.{afterAll}
+use Rattle.session_rules.specs.Bytes.{afterAll}
 use Rattle.run_session.proofs.Parts.{left-length, part-taken}
 use Rattle.run_session.proofs.answered.Statement.{statement}
 use Rattle.run_session.proofs.answered.Tie as tie

@@ -4,7 +4,7 @@ use Prim.Native.Nat.{_≤_}
 use lib.ListN.{length}
 use native.Mathlib.Omega.{arith}
 use borrow.Author.Needs.{needs}
-use Rattle.session.proofs.Pieces.{taken-few, takes-some}
+use Rattle.session_rules.proofs.Pieces.{taken-few, takes-some}
 use Rattle.run_session.proofs.feed.Statement.{statement}
 use Rattle.run_session.proofs.feed.Tie as tie
 

@@ -4,7 +4,7 @@ use borrow.Author.Needs.{needs}
 use borrow.Author.Tests.{lt-ltb, le-ltb, eq-eqb, ne-eqb}
 use mathlib.Core.Path.{refl}
 use Rattle.rows.proofs.Puts.{none-put}
-use Rattle.session.specs.Bytes.{after, said}
+use Rattle.session_rules.specs.Bytes.{after, said}
 use Rattle.session.proofs.byte.Statement.{statement}
 use Rattle.session.proofs.byte.Tie as tie
 

@@ -2,8 +2,8 @@
 -- Assumes nothing.
 use borrow.Author.Needs.{needs}
 use Rattle.rows.proofs.Puts.{written}
-use Rattle.session.specs.Calls.{saidText}
-use Rattle.session.specs.Bytes.{ended}
+use Rattle.session_rules.specs.Calls.{saidText}
+use Rattle.session_rules.specs.Bytes.{ended}
 use Rattle.session.proofs.ended.Statement.{statement}
 use Rattle.session.proofs.ended.Tie as tie
 

@@ -3,7 +3,7 @@
 use Prim.Native.Nat.{_-_}
 use native.Mathlib.Omega.{arith}
 use lib.ListN.{length}
-use Rattle.session.proofs.Feeding.{Going, goes, goes-on, done-full, done-all}
+use Rattle.session_rules.proofs.Feeding.{Going, goes, goes-on, done-full, done-all}
 use Rattle.session.proofs.feed.Statement.{statement}
 use Rattle.session.proofs.feed.Tie as tie
 

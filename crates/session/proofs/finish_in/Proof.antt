@@ -6,8 +6,8 @@ use native.Mathlib.Omega.{arith}
 use lib.ListN.{length-append}
 use Rattle.rows.specs.Text.{rowText}
 use Rattle.rows.proofs.Puts.{behind, room, written, spoke}
-use Rattle.session.specs.Bytes.{lastSaid}
-use Rattle.session.proofs.Feeding.{said-short, counts-short}
+use Rattle.session_rules.specs.Bytes.{lastSaid}
+use Rattle.session_rules.proofs.Feeding.{said-short, counts-short}
 use Rattle.session.proofs.finish_in.Statement.{statement}
 use Rattle.session.proofs.finish_in.Tie as tie
 

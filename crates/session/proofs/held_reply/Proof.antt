@@ -2,7 +2,7 @@
 -- Assumes nothing.
 use borrow.Author.Needs.{needs}
 use borrow.Author.Tests.{lt-ltb, le-ltb}
-use Rattle.session.specs.Bytes.{heldReply}
+use Rattle.session_rules.specs.Bytes.{heldReply}
 use Rattle.session.proofs.held_reply.Statement.{statement}
 use Rattle.session.proofs.held_reply.Tie as tie
 

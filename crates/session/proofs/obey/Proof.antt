@@ -1,7 +1,7 @@
 -- `session::obey` meets its contract. Case by case of the record.
 -- Assumes nothing.
 use borrow.Author.Needs.{needs}
-use Rattle.session.specs.Calls.{obey}
+use Rattle.session_rules.specs.Calls.{obey}
 use Rattle.session.proofs.obey.Statement.{statement}
 use Rattle.session.proofs.obey.Tie as tie
 

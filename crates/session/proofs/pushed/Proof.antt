@@ -1,7 +1,7 @@
 -- `session::pushed` meets its contract. The calls' results put together.
 -- Assumes nothing.
 use borrow.Author.Needs.{needs}
-use Rattle.session.specs.Bytes.{pushed}
+use Rattle.session_rules.specs.Bytes.{pushed}
 use Rattle.session.proofs.pushed.Statement.{statement}
 use Rattle.session.proofs.pushed.Tie as tie
 

@@ -10,9 +10,9 @@ use lib.Dec.{eqb}
 use lib.ListN.{length, getD}
 use borrow.Author.Needs.{needs}
 use borrow.Author.Tests.{eqb-true}
-use Rattle.line.specs.Sending.{bit, oddOnes}
-use Rattle.line.proofs.Bits.{is-one}
-use Rattle.line.proofs.Table.{every, entry}
+use Rattle.line_rules.specs.Sending.{bit, oddOnes}
+use Rattle.line_rules.proofs.Bits.{is-one}
+use Rattle.line_rules.proofs.Table.{every, entry}
 use Rattle.line.proofs.parity.odd.Statement.{statement}
 use Rattle.line.proofs.parity.odd.Tie as tie
 

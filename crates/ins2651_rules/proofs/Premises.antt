@@ -1,0 +1,46 @@
+-- Devices set up by document 01's calls meet the premises of the theorems over runs: none of those is empty.
+-- Assumes nothing.
+use mathlib.Core.Path.{_≡_, refl}
+use mathlib.Core.Bool.{true}
+use mathlib.Core.List.{List, [], _∷_, map}
+use Rattle.line_rules.specs.Sending.{bit, frame, part}
+use Rattle.line_rules.specs.Range as line-range
+use Rattle.line_rules.specs.Reading.{reading}
+use Rattle.line_rules.specs.Receiving.{sample}
+use Rattle.link_rules.specs.Transmitting as link-transmitting
+use Rattle.link_rules.specs.Hearing as link-hearing
+use Rattle.link_rules.specs.Within.{senderInRange, receiverInRange}
+use Rattle.ins2651_rules.specs.declared.Device.{Device}
+use Rattle.ins2651_rules.specs.Modes.{formatOf, receiveFormat}
+use Rattle.ins2651_rules.specs.Conditions.{receiving}
+use Rattle.ins2651_rules.specs.Status.{statusByte}
+use Rattle.ins2651_rules.specs.Ranges.{inRange, settled}
+use Rattle.ins2651_rules.specs.Refusals.{writeRefusal}
+use Rattle.ins2651_rules.specs.RegisterReads.{readRegister, read}
+use Rattle.ins2651_rules.specs.RegisterWrites.{writeRegister, write}
+use Rattle.ins2651_rules.specs.Pinning.{pinned, setPins}
+use Rattle.ins2651_rules.specs.Ticks.{transmitTick, transmit, receiveTick, receive}
+use Rattle.ins2651_rules.specs.Runs.{Call, Read, Write, SetPins, Transmit, Receive, Outputs, next}
+use Rattle.ins2651_rules.specs.Line.{levelsSent, samples, arrivedIn, Listens}
+use Rattle.ins2651_rules.specs.BenchCases.{setUp, formatFor}
+use Rattle.ins2651_rules.proofs.FrameWhole.{frame-sent}
+use Rattle.ins2651_rules.proofs.Arrives.{arrivals-are-the-reading}
+
+-- 77 is 8 bits at one tick a bit: the ten levels of 65, with a mode written, a break commanded and CTS raised inside the frame
+abbrev between : List Call
+between = Write 2 78 ∷ Transmit ∷ Transmit ∷ Write 3 9 ∷ Transmit ∷ Transmit ∷ SetPins 0 0 1 ∷ Transmit ∷ Transmit ∷ Write 3 0 ∷ Transmit ∷ Transmit ∷ Read 1 ∷ Transmit ∷ Receive 0 ∷ Outputs ∷ []
+
+sends-65 : levelsSent (next (setUp 77) (Write 0 65)) (Transmit ∷ between) ≡ map bit (frame (formatFor 77) 65)
+unfolding line-range.inRange senderInRange receiverInRange formatOf inRange settled writeRefusal writeRegister write pinned setPins
+sends-65 = frame-sent (setUp 77) 65 refl refl refl refl between refl refl
+
+-- 65 is 5 bits at one tick a bit: a mark, a start and data with other calls between, some of them refused
+abbrev heard : List Call
+heard = Receive 1 ∷ Read 1 ∷ Receive 0 ∷ Transmit ∷ Receive 2 ∷ Receive 1 ∷ Write 3 7 ∷ Read 4 ∷ SetPins 1 0 0 ∷ Receive 1 ∷ []
+
+hears : arrivedIn (setUp 65) 0 heard ≡ reading (formatFor 65) (samples heard)
+unfolding part sample link-transmitting.transmit link-hearing.receive line-range.inRange senderInRange receiverInRange formatOf statusByte inRange settled writeRefusal readRegister read writeRegister write pinned setPins transmitTick transmit receiveTick receive
+hears =
+    let on : (d : Device) → receiving d ≡ true → receiveFormat (d .registers) ≡ formatFor 65 → Listens (formatFor 65) d = λ d l f. record { live = l; format = f } in
+    arrivals-are-the-reading (formatFor 65) (setUp 65) heard refl refl
+    (on _ refl refl, (on _ refl refl, (on _ refl refl, (on _ refl refl, (on _ refl refl, (on _ refl refl, (on _ refl refl, (on _ refl refl, (on _ refl refl, (on _ refl refl, on _ refl refl))))))))))

@@ -1,0 +1,42 @@
+-- Register reads: document 01, "Registers". Address 0 is RHR, 1 status, 2 mode 1 and mode 2 in turn, 3 command.
+-- Assumes nothing.
+use Prim.Native.Nat.{ℕ}
+use mathlib.Core.Bool.{cond}
+use lib.Dec.{eqb}
+use Rattle.link_rules.specs.Parts.{emptied}
+use Rattle.ins2651_rules.specs.declared.Device.{Device}
+use Rattle.ins2651_rules.specs.declared.Answer.{Answer}
+use Rattle.ins2651_rules.specs.Shape.{withRegisters, withFlags, withReceiver, withChange, pointing, answered, refusedRead}
+use Rattle.ins2651_rules.specs.Ranges.{settled}
+use Rattle.ins2651_rules.specs.Refusals.{readRefusal}
+use Rattle.ins2651_rules.specs.Status.{statusByte}
+
+-- RHR gives what it last held, and is read
+abbrev pub readHolding : Device → Answer
+readHolding d = answered (d .receiver .holding) (withReceiver d (emptied (d .receiver)) (d .flags))
+
+-- the value is from before the change-mark is cleared
+abbrev pub readStatus : Device → Answer
+readStatus d = answered (statusByte d) (withFlags d (withChange (d .flags) 0))
+
+-- the mode pointer moves, and wraps
+abbrev pub readMode : Device → Answer
+readMode d =
+    cond (eqb (d .registers .modes) 0)
+    (answered (d .registers .mode1) (withRegisters d (pointing (d .registers) 1 (d .registers .syns))))
+    (answered (d .registers .mode2) (withRegisters d (pointing (d .registers) 0 (d .registers .syns))))
+
+-- a command read puts both pointers back
+abbrev pub readCommand : Device → Answer
+readCommand d = answered (d .registers .command) (withRegisters d (pointing (d .registers) 0 0))
+
+unfoldable pub readRegister : Device → ℕ → Answer
+readRegister d address =
+    cond (eqb address 0) (readHolding d)
+    (cond (eqb address 1) (readStatus d)
+    (cond (eqb address 2) (readMode d)
+    (readCommand d)))
+
+-- the call
+unfoldable pub read : Device → ℕ → Answer
+read d address = cond (eqb (readRefusal address) 0) (readRegister (settled d) address) (refusedRead (readRefusal address) d)

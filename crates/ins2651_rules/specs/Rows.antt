@@ -1,0 +1,65 @@
+-- The refusal table of document 01, row by row, over calls. Each number is given exactly when its row says (proofs/Refused.antt).
+-- Assumes nothing.
+use Prim.Native.Nat.{ℕ, _/_, _%_}
+use mathlib.Core.Bool.{Bool, false, not, _&&_}
+use lib.Dec.{ltb, leb, eqb}
+use Rattle.ins2651_rules.specs.declared.Device.{Device}
+use Rattle.ins2651_rules.specs.Ranges.{settled}
+use Rattle.ins2651_rules.specs.Refusals.{readRefusal, writeRefusal, pinsRefusal, levelRefusal}
+use Rattle.ins2651_rules.specs.Runs.{Call, Reset, Read, Write, SetPins, Transmit, Receive, Outputs}
+
+-- the number that a call is given; 0 is done. A reset and a transmit tick are never refused
+abbrev pub refusal : Device → Call → ℕ
+refusal d Reset = 0
+refusal d (Read address) = readRefusal address
+refusal d (Write address v) = writeRefusal (settled d .registers) address v
+refusal d (SetPins dsr dcd cts) = pinsRefusal dsr dcd cts
+refusal d Transmit = 0
+refusal d (Receive x) = levelRefusal x
+refusal d Outputs = 0
+
+-- the register address, and whether it is above 3
+abbrev pub addressAbove3 : Call → Bool
+addressAbove3 Reset = false
+addressAbove3 (Read address) = ltb 3 address
+addressAbove3 (Write address v) = ltb 3 address
+addressAbove3 (SetPins dsr dcd cts) = false
+addressAbove3 Transmit = false
+addressAbove3 (Receive x) = false
+addressAbove3 Outputs = false
+
+-- a pin or line level neither 0 nor 1
+abbrev pub noLevel : Call → Bool
+noLevel Reset = false
+noLevel (Read address) = false
+noLevel (Write address v) = false
+noLevel (SetPins dsr dcd cts) = not (leb dsr 1 && leb dcd 1 && leb cts 1)
+noLevel Transmit = false
+noLevel (Receive x) = not (leb x 1)
+noLevel Outputs = false
+
+-- a write of an address whose value is so
+abbrev pub writes : (ℕ → ℕ → Bool) → Call → Bool
+writes p Reset = false
+writes p (Read address) = false
+writes p (Write address v) = p address v
+writes p (SetPins dsr dcd cts) = false
+writes p Transmit = false
+writes p (Receive x) = false
+writes p Outputs = false
+
+-- mode register 1 is the one that address 2 points at
+abbrev pub atMode1 : Device → Bool
+atMode1 d = eqb (settled d .registers .modes) 0
+
+-- mode register 1 with a clock factor of 01, 10 or 11 and stop length 00
+abbrev pub noStop : Device → Call → Bool
+noStop d c = writes (λ (address : ℕ) (v : ℕ). eqb address 2 && atMode1 d && not (eqb (v % 4) 0) && eqb (v / 64) 0) c
+
+-- mode register 1 with factor 00
+abbrev pub synchronous : Device → Call → Bool
+synchronous d c = writes (λ (address : ℕ) (v : ℕ). eqb address 2 && atMode1 d && eqb (v % 4) 0) c
+
+-- a command with bits 7-6 not 00
+abbrev pub notOperating : Call → Bool
+notOperating c = writes (λ (address : ℕ) (v : ℕ). eqb address 3 && not (ltb v 64)) c

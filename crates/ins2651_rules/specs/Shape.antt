@@ -1,0 +1,100 @@
+-- A device by its parts, the device just reset, and the kinds of answer. Nothing here is a rule. No other file builds a device, its
+-- registers, its pins or its flags field by field, so that a new field is one change.
+-- Assumes nothing.
+use Prim.Native.Nat.{ℕ}
+use Rattle.link_rules.specs.declared.SenderHalf.{SenderHalf}
+use Rattle.link_rules.specs.declared.ReceiverHalf.{ReceiverHalf}
+use Rattle.link_rules.specs.Parts.{idleSender, idleReceiver}
+use Rattle.ins2651_rules.specs.declared.Registers.{Registers}
+use Rattle.ins2651_rules.specs.declared.Pins.{Pins}
+use Rattle.ins2651_rules.specs.declared.Flags.{Flags}
+use Rattle.ins2651_rules.specs.declared.Device.{Device}
+use Rattle.ins2651_rules.specs.declared.Answer.{Answer}
+use Rattle.ins2651_rules.specs.declared.Outcome.{Outcome}
+use Rattle.ins2651_rules.specs.declared.Ticked.{Ticked}
+
+-- a device of these parts, and of what d has besides
+abbrev pub withParts : Device → Registers → Pins → SenderHalf → ReceiverHalf → Flags → Device
+withParts d r p s h f = record { registers = r; pins = p; sender = s; receiver = h; flags = f }
+
+abbrev pub withRegisters : Device → Registers → Device
+withRegisters d r = withParts d r (d .pins) (d .sender) (d .receiver) (d .flags)
+
+abbrev pub withFlags : Device → Flags → Device
+withFlags d f = withParts d (d .registers) (d .pins) (d .sender) (d .receiver) f
+
+abbrev pub withPins : Device → Pins → Flags → Device
+withPins d p f = withParts d (d .registers) p (d .sender) (d .receiver) f
+
+abbrev pub withSender : Device → SenderHalf → Flags → Device
+withSender d s f = withParts d (d .registers) (d .pins) s (d .receiver) f
+
+abbrev pub withReceiver : Device → ReceiverHalf → Flags → Device
+withReceiver d h f = withParts d (d .registers) (d .pins) (d .sender) h f
+
+abbrev pub withHalves : Device → SenderHalf → ReceiverHalf → Device
+withHalves d s h = withParts d (d .registers) (d .pins) s h (d .flags)
+
+-- == registers ==
+
+abbrev pub pointing : Registers → ℕ → ℕ → Registers
+pointing r m s =
+    record { mode1 = r .mode1; mode2 = r .mode2; accepted = r .accepted; command = r .command; syn1 = r .syn1; syn2 = r .syn2; dle = r .dle; modes = m; syns = s }
+
+abbrev pub withModes : Registers → ℕ → ℕ → ℕ → ℕ → Registers
+withModes r m1 m2 a p =
+    record { mode1 = m1; mode2 = m2; accepted = a; command = r .command; syn1 = r .syn1; syn2 = r .syn2; dle = r .dle; modes = p; syns = r .syns }
+
+abbrev pub withSyns : Registers → ℕ → ℕ → ℕ → ℕ → Registers
+withSyns r a b c p =
+    record { mode1 = r .mode1; mode2 = r .mode2; accepted = r .accepted; command = r .command; syn1 = a; syn2 = b; dle = c; modes = r .modes; syns = p }
+
+abbrev pub withCommand : Registers → ℕ → Registers
+withCommand r v =
+    record { mode1 = r .mode1; mode2 = r .mode2; accepted = r .accepted; command = v; syn1 = r .syn1; syn2 = r .syn2; dle = r .dle; modes = r .modes; syns = r .syns }
+
+-- == pins ==
+
+abbrev pub pinLevels : ℕ → ℕ → ℕ → Pins
+pinLevels dsr dcd cts = record { dsr = dsr; dcd = dcd; cts = cts }
+
+-- == flags ==
+
+abbrev pub withErrors : Flags → ℕ → ℕ → ℕ → Flags
+withErrors f framing overrun parity = record { framing = framing; overrun = overrun; parity = parity; empty = f .empty; change = f .change }
+
+abbrev pub withEmpty : Flags → ℕ → Flags
+withEmpty f e = record { framing = f .framing; overrun = f .overrun; parity = f .parity; empty = e; change = f .change }
+
+abbrev pub withChange : Flags → ℕ → Flags
+withChange f c = record { framing = f .framing; overrun = f .overrun; parity = f .parity; empty = f .empty; change = c }
+
+-- == reset ==
+
+-- every register clear, both holding registers empty, nothing under way, the receiver waiting for a 1, all three inputs high
+abbrev pub resetDevice : Device
+resetDevice =
+    record {
+      registers = record { mode1 = 0; mode2 = 0; accepted = 0; command = 0; syn1 = 0; syn2 = 0; dle = 0; modes = 0; syns = 0 };
+      pins = pinLevels 1 1 1;
+      sender = idleSender;
+      receiver = idleReceiver;
+      flags = record { framing = 0; overrun = 0; parity = 0; empty = 0; change = 0 };
+    }
+
+-- == answers ==
+
+abbrev pub answered : ℕ → Device → Answer
+answered v d = record { refusal = 0; value = v; device = d }
+
+abbrev pub refusedRead : ℕ → Device → Answer
+refusedRead n d = record { refusal = n; value = 0; device = d }
+
+abbrev pub done : Device → Outcome
+done d = record { refusal = 0; device = d }
+
+abbrev pub refused : ℕ → Device → Outcome
+refused n d = record { refusal = n; device = d }
+
+abbrev pub ticked : ℕ → Device → Ticked
+ticked x d = record { level = x; device = d }

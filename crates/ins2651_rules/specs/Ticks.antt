@@ -1,0 +1,62 @@
+-- The two ticks: document 01, "Sending, by transmit ticks" and "Receiving, by receive ticks". What a half does at a tick stands in link.
+-- Assumes nothing.
+use Prim.Native.Nat.{ℕ}
+use mathlib.Core.Bool.{Bool, cond, _&&_}
+use lib.Dec.{eqb}
+use Rattle.line_rules.specs.declared.Heard.{Heard}
+use Rattle.line_rules.specs.declared.Heard.the-variants.{Nothing, Character}
+use Rattle.line_rules.specs.Sending.{bit, on}
+use Rattle.link_rules.specs.declared.Sent.{Sent}
+use Rattle.link_rules.specs.declared.Received.{Received}
+use Rattle.link_rules.specs.Transmitting as link-transmitting
+use Rattle.link_rules.specs.Hearing as link-hearing
+use Rattle.ins2651_rules.specs.declared.Flags.{Flags}
+use Rattle.ins2651_rules.specs.declared.Device.{Device}
+use Rattle.ins2651_rules.specs.declared.Outcome.{Outcome}
+use Rattle.ins2651_rules.specs.declared.Ticked.{Ticked}
+use Rattle.ins2651_rules.specs.Shape.{withSender, withReceiver, withErrors, withEmpty, done, refused, ticked}
+use Rattle.ins2651_rules.specs.Modes.{sendFormat, receiveFormat}
+use Rattle.ins2651_rules.specs.Conditions.{transmitting, sending, breaking, receiving}
+use Rattle.ins2651_rules.specs.Pinning.{orSet}
+use Rattle.ins2651_rules.specs.Ranges.{settled}
+use Rattle.ins2651_rules.specs.Refusals.{levelRefusal}
+
+-- == transmit ==
+
+-- the sending half's tick
+abbrev pub sent : Device → Sent
+sent d = link-transmitting.transmit (d .sender) (sending d) (breaking d) (sendFormat (d .registers))
+
+-- the empty-mark is set where the tick ends a frame with THR empty and transmit enabled
+abbrev pub sentBy : Device → Sent → Ticked
+sentBy d s = ticked (bit (s .level)) (withSender d (s .half) (withEmpty (d .flags) (orSet (s .drained && transmitting d) (d .flags .empty))))
+
+-- the tick of a device in range
+unfoldable pub transmitTick : Device → Ticked
+transmitTick d = sentBy d (sent d)
+
+-- the call; it is never refused
+unfoldable pub transmit : Device → Ticked
+transmit d = transmitTick (settled d)
+
+-- == receive ==
+
+-- the receiving half's tick
+abbrev pub received : Device → Bool → Received
+received d x = link-hearing.receive (d .receiver) (receiving d) (receiveFormat (d .registers)) x
+
+-- what arrives sets flags and clears none: a stop of 0, a register found unread, a wrong parity
+abbrev pub noted : Flags → Bool → Heard → Flags
+noted f overrun Nothing = f
+noted f overrun (Character a) = withErrors f (orSet (a .framing) (f .framing)) (orSet overrun (f .overrun)) (orSet (a .parity) (f .parity))
+
+abbrev pub receivedBy : Device → Received → Device
+receivedBy d r = withReceiver d (r .half) (noted (d .flags) (r .overrun) (r .heard))
+
+-- the tick of a device in range
+unfoldable pub receiveTick : Device → Bool → Device
+receiveTick d x = receivedBy d (received d x)
+
+-- the call
+unfoldable pub receive : Device → ℕ → Outcome
+receive d x = cond (eqb (levelRefusal x) 0) (done (receiveTick (settled d) (on x))) (refused (levelRefusal x) d)

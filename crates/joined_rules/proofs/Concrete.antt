@@ -1,0 +1,141 @@
+-- Runs of real calls that meet demand 3's premises, computed: what it promises is not promised of nothing.
+-- Assumes nothing.
+use Prim.Native.Nat.{ℕ}
+use mathlib.Core.Path.{_≡_, refl, sym}
+use mathlib.Core.Bool.{true}
+use mathlib.Core.List.{List, [], _∷_, _++_}
+use lib.ListN.{replicate}
+use Rattle.line_rules.specs.Sending.{part, oddOnes, parityBit}
+use Rattle.line_rules.specs.Range as line-range
+use Rattle.line_rules.specs.Receiving.{sample}
+use Rattle.link_rules.specs.Transmitting as link-transmitting
+use Rattle.link_rules.specs.Hearing as link-hearing
+use Rattle.link_rules.specs.Within.{senderInRange, receiverInRange}
+use Rattle.ins2651_rules.specs.Shape.{resetDevice}
+use Rattle.ins2651_rules.specs.Modes.{formatOf}
+use Rattle.ins2651_rules.specs.Status.{statusByte}
+use Rattle.ins2651_rules.specs.Ranges.{inRange, settled}
+use Rattle.ins2651_rules.specs.Refusals.{writeRefusal}
+use Rattle.ins2651_rules.specs.RegisterReads.{readRegister, read}
+use Rattle.ins2651_rules.specs.RegisterWrites.{writeRegister, write}
+use Rattle.ins2651_rules.specs.Pinning.{pinned, setPins}
+use Rattle.ins2651_rules.specs.Ticks.{transmitTick, transmit, receiveTick, receive}
+use Rattle.ins2651_rules.specs.Runs.{Read, Write, said}
+use Rattle.joined_rules.specs.Joining.{tick}
+use Rattle.joined_rules.specs.Bench.{statusBit, A, B, Step, Tick, At, Bench, step, runs}
+use Rattle.joined_rules.specs.Demand3.{Settings, Proper, Agree, fresh, allAllowed, Right}
+use Rattle.joined_rules.proofs.Promised.{demand-3}
+
+-- what the calls of a run answer: the bytes read
+abbrev told : Bench → List Step → List ℕ
+told w [] = []
+told w (Tick ∷ ss) = told (step w Tick) ss
+told w (At A c ∷ ss) = said (w .pair .a) c .values ++ told (step w (At A c)) ss
+told w (At B c ∷ ss) = said (w .pair .b) c .values ++ told (step w (At B c)) ss
+
+abbrev after : ℕ → List Step → List Step
+after n ss = replicate n Tick ++ ss
+
+abbrev start : Settings → Settings → Bench
+start a b = fresh resetDevice resetDevice a b
+
+-- == document 01's session ==
+
+-- 206 is 8 bits, no parity, two stops; 126 makes both clocks internal; 39 is bits 0, 1, 2 and 5
+abbrev worked : Settings
+worked = record { mode1 = 206; mode2 = 126; command = 39 }
+
+abbrev session : List Step
+session = At A (Write 0 255) ∷ after 152 (At B (Read 1) ∷ Tick ∷ At B (Read 1) ∷ At B (Read 0) ∷ At B (Read 1) ∷ [])
+
+pub worked-proper : Proper worked
+worked-proper = record { mode1 = refl; asynchronous = refl; command = refl; transmits = refl; receives = refl; no-break = refl; no-echo = refl; no-loopback = refl }
+
+pub worked-agrees : Agree worked worked
+unfolding formatOf
+worked-agrees = record { there = record { factor = refl; length = refl; parity = refl; kind = λ e. refl }; back = record { factor = refl; length = refl; parity = refl; kind = λ e. refl } }
+
+pub session-allowed : allAllowed worked worked (start worked worked) session ≡ true
+unfolding part oddOnes parityBit sample link-transmitting.transmit link-hearing.receive line-range.inRange senderInRange receiverInRange formatOf statusByte inRange settled writeRefusal readRegister read writeRegister write pinned setPins transmitTick transmit receiveTick receive tick
+session-allowed = refl
+
+-- the character is not there after 152 ticks, and is there after 153
+pub session-told : told (start worked worked) session ≡ 197 ∷ 195 ∷ 255 ∷ 193 ∷ []
+unfolding part oddOnes parityBit sample link-transmitting.transmit link-hearing.receive line-range.inRange senderInRange receiverInRange formatOf statusByte inRange settled writeRefusal readRegister read writeRegister write pinned setPins transmitTick transmit receiveTick receive tick
+session-told = refl
+
+pub session-right : Right worked worked (runs (start worked worked) session)
+session-right = demand-3 worked worked worked-proper worked-proper worked-agrees resetDevice resetDevice session session-allowed
+
+-- == a sender kept full, with parity and unequal stops, and the other way in use as well ==
+
+-- 125 is 8 bits, even parity, one stop, one tick a bit; 5 is bits 0 and 2
+abbrev one-stop : Settings
+one-stop = record { mode1 = 125; mode2 = 0; command = 5 }
+
+-- 253 is the same with two stops; 15 is a rate; 21 is bits 0, 2 and 4
+abbrev two-stops : Settings
+two-stops = record { mode1 = 253; mode2 = 15; command = 21 }
+
+-- a writes as soon as it may, at ticks 0, 1 and 12; each arrival at b is read as late as it may be, 10 ticks after it; b writes once
+abbrev full-line : List Step
+full-line =
+    At A (Write 0 193) ∷ At B (Write 0 90) ∷ Tick ∷ At A (Write 0 194) ∷ after 11 (At A (Write 0 195)
+    ∷ after 9 (At A (Read 0) ∷ At B (Read 0)
+    ∷ after 11 (At B (Read 0)
+    ∷ after 11 (At B (Read 0) ∷ []))))
+
+pub one-stop-proper : Proper one-stop
+one-stop-proper = record { mode1 = refl; asynchronous = refl; command = refl; transmits = refl; receives = refl; no-break = refl; no-echo = refl; no-loopback = refl }
+
+pub two-stops-proper : Proper two-stops
+two-stops-proper = record { mode1 = refl; asynchronous = refl; command = refl; transmits = refl; receives = refl; no-break = refl; no-echo = refl; no-loopback = refl }
+
+pub stops-agree : Agree one-stop two-stops
+unfolding formatOf
+stops-agree = record { there = record { factor = refl; length = refl; parity = refl; kind = λ e. refl }; back = record { factor = refl; length = refl; parity = refl; kind = λ e. refl } }
+
+-- under internal clocks the factor bits may differ, and without parity its kind
+pub mixed-agree : Agree (record { mode1 = 78; mode2 = 48; command = 5 }) (record { mode1 = 237; mode2 = 63; command = 39 })
+unfolding formatOf
+mixed-agree = record { there = record { factor = refl; length = refl; parity = refl; kind = λ e. e }; back = record { factor = refl; length = refl; parity = refl; kind = λ e. sym e } }
+
+pub full-line-allowed : allAllowed one-stop two-stops (start one-stop two-stops) full-line ≡ true
+unfolding part oddOnes parityBit sample link-transmitting.transmit link-hearing.receive line-range.inRange senderInRange receiverInRange formatOf statusByte inRange settled writeRefusal readRegister read writeRegister write pinned setPins transmitTick transmit receiveTick receive tick
+full-line-allowed = refl
+
+-- the arrivals are L = 11 apart; the second and the third come at their bound, L+D = 21 ticks after their writes
+pub full-line-there : runs (start one-stop two-stops) full-line .there
+    ≡ record {
+      written = record { at = 12; value = 195 } ∷ record { at = 1; value = 194 } ∷ record { at = 0; value = 193 } ∷ [];
+      came = record { at = 33; value = 195 } ∷ record { at = 22; value = 194 } ∷ record { at = 11; value = 193 } ∷ [];
+      read = 195 ∷ 194 ∷ 193 ∷ [];
+    }
+unfolding part oddOnes parityBit sample link-transmitting.transmit link-hearing.receive line-range.inRange senderInRange receiverInRange formatOf statusByte inRange settled writeRefusal readRegister read writeRegister write pinned setPins transmitTick transmit receiveTick receive tick
+full-line-there = refl
+
+pub full-line-back : runs (start one-stop two-stops) full-line .back .came ≡ record { at = 11; value = 90 } ∷ []
+unfolding part oddOnes parityBit sample link-transmitting.transmit link-hearing.receive line-range.inRange senderInRange receiverInRange formatOf statusByte inRange settled writeRefusal readRegister read writeRegister write pinned setPins transmitTick transmit receiveTick receive tick
+full-line-back = refl
+
+pub full-line-right : Right one-stop two-stops (runs (start one-stop two-stops) full-line)
+full-line-right = demand-3 one-stop two-stops one-stop-proper two-stops-proper stops-agree resetDevice resetDevice full-line full-line-allowed
+
+-- == what the premises are for ==
+
+-- two characters and no read: as long as the first may still be read all is allowed, and at the next tick the second overruns it
+abbrev unread-for : ℕ → List Step
+unread-for n = At A (Write 0 193) ∷ Tick ∷ At A (Write 0 194) ∷ after n []
+
+pub may-still-be-read : allAllowed one-stop two-stops (start one-stop two-stops) (unread-for 20) ≡ true
+unfolding part oddOnes parityBit sample link-transmitting.transmit link-hearing.receive line-range.inRange senderInRange receiverInRange formatOf statusByte inRange settled writeRefusal readRegister read writeRegister write pinned setPins transmitTick transmit receiveTick receive tick
+may-still-be-read = refl
+
+pub late-read-overruns : statusBit 16 (runs (start one-stop two-stops) (unread-for 21) .pair .b) ≡ true
+unfolding part oddOnes parityBit sample link-transmitting.transmit link-hearing.receive line-range.inRange senderInRange receiverInRange formatOf statusByte inRange settled writeRefusal readRegister read writeRegister write pinned setPins transmitTick transmit receiveTick receive tick
+late-read-overruns = refl
+
+-- a write that was not asked for replaces the character that waits
+pub unasked-write-loses : runs (start one-stop two-stops) (At A (Write 0 193) ∷ At A (Write 0 194) ∷ after 40 []) .there .came ≡ record { at = 11; value = 194 } ∷ []
+unfolding part oddOnes parityBit sample link-transmitting.transmit link-hearing.receive line-range.inRange senderInRange receiverInRange formatOf statusByte inRange settled writeRefusal readRegister read writeRegister write pinned setPins transmitTick transmit receiveTick receive tick
+unasked-write-loses = refl

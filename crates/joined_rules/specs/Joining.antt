@@ -1,0 +1,48 @@
+-- Two devices joined: document 01, "Receiving, by receive ticks". A joined tick is both transmit ticks, then each receiver takes the other's level.
+-- Assumes nothing.
+use Prim.Native.Nat.{ℕ, zero, suc}
+use Rattle.line_rules.specs.Sending.{on}
+use Rattle.ins2651_rules.specs.declared.Ticked.{Ticked}
+use Rattle.ins2651_rules.specs.Ranges.{settled}
+use Rattle.ins2651_rules.specs.Ticks.{transmitTick, transmit, receiveTick, receive}
+use Rattle.joined_rules.specs.declared.Pair.{Pair}
+use Rattle.joined_rules.specs.declared.Joined.{Joined}
+
+-- the call, by the chip's own calls; it is never refused
+unfoldable pub tick : Pair → Joined
+tick p =
+    record {
+      pair = record {
+        a = receive (transmit (p .a) .device) (transmit (p .b) .level) .device;
+        b = receive (transmit (p .b) .device) (transmit (p .a) .level) .device;
+      };
+      a = transmit (p .a) .level;
+      b = transmit (p .b) .level;
+    }
+
+-- n of them, one after another: what a run of n leaves
+abbrev pub ticks : ℕ → Pair → Pair
+ticks zero p = p
+ticks (suc n) p = ticks n (tick p .pair)
+
+-- == the same on a pair in range ==
+
+-- a device out of range is taken as one just reset
+abbrev pub settledPair : Pair → Pair
+settledPair p = record { a = settled (p .a); b = settled (p .b) }
+
+-- what both transmit ticks lead to
+abbrev pub exchange : Ticked → Ticked → Joined
+exchange a b =
+    record {
+      pair = record { a = receiveTick (a .device) (on (b .level)); b = receiveTick (b .device) (on (a .level)) };
+      a = a .level;
+      b = b .level;
+    }
+
+unfoldable pub joinedTick : Pair → Joined
+joinedTick p = exchange (transmitTick (p .a)) (transmitTick (p .b))
+
+abbrev pub joinedTicks : ℕ → Pair → Pair
+joinedTicks zero p = p
+joinedTicks (suc n) p = joinedTicks n (joinedTick p .pair)

@@ -1,0 +1,19 @@
+// Two devices joined by a line, by document 01, "Receiving, by receive ticks". specs/ says what a joined tick is and what demand 3 promises,
+// proofs/ that it holds; the calls themselves are `joined`'s. No code stands here, so that a wrong definition or statement is refused
+// without proving the calls again.
+use ins2651_rules::Device;
+
+// The device `a` at one end of the line and `b` at the other.
+#[repr(C)]
+pub struct Pair {
+    pub a: Device,
+    pub b: Device,
+}
+
+// What a joined tick answers: the pair after it, and the level that each device sent.
+#[repr(C)]
+pub struct Joined {
+    pub pair: Pair,
+    pub a: u8,
+    pub b: u8,
+}

@@ -1,0 +1,20 @@
+-- What has arrived, and when.
+-- Assumes nothing.
+use Prim.Native.Nat.{ℕ, _+_}
+use mathlib.Core.Bool.{false}
+use Rattle.line_rules.specs.declared.Format.{Format}
+use Rattle.line_rules.specs.declared.Arrival.{Arrival}
+use Rattle.line_rules.specs.Sending.{cut}
+
+-- a character with the number of its stop sample; samples count from 1
+pub record Arrived : Type 0 where
+  pub at : ℕ
+  pub arrival : Arrival
+
+-- the same j samples later
+abbrev pub later : ℕ → Arrived → Arrived
+later j a = record { at = j + a .at; arrival = a .arrival }
+
+-- c has arrived with sample number k: cut to its length, with no flag
+abbrev pub delivered : Format → ℕ → ℕ → Arrived
+delivered f c k = record { at = k; arrival = record { value = cut f c; parity = false; framing = false } }

@@ -1,0 +1,91 @@
+-- What the receiver does at a sample: document 01, "Receiving, by receive ticks".
+-- Assumes nothing.
+use Prim.Native.Nat.{ℕ, zero, suc, _+_, _*_, _-_, _^_, _%_}
+use mathlib.Core.Bool.{Bool, true, false, cond, not}
+use mathlib.Core.List.{List, [], _∷_}
+use lib.Dec.{eqb}
+use Rattle.line_rules.specs.declared.Format.{Format}
+use Rattle.line_rules.specs.declared.Receiver.{Receiver}
+use Rattle.line_rules.specs.declared.Heard.{Heard}
+use Rattle.line_rules.specs.declared.Heard.the-variants.{Nothing, Character}
+use Rattle.line_rules.specs.declared.Sampled.{Sampled}
+use Rattle.line_rules.specs.Arrived.{Arrived}
+use Rattle.line_rules.specs.Sending.{bit, on, differ, half, parityBit, part}
+
+-- no character is under way
+abbrev pub atRest : ℕ → Receiver
+atRest p = record { phase = p; countdown = 0; value = 0; wrong = 0; look = 0 }
+
+-- it waits for a sample of 1 ..
+abbrev pub waiting : Receiver
+waiting = atRest 0
+
+-- .. then for a 0
+abbrev pub searching : Receiver
+searching = atRest 1
+
+-- a character is under way: c ticks pass before look number m; the value so far, and 1 if its parity was wrong
+abbrev pub assembling : ℕ → ℕ → ℕ → ℕ → Receiver
+assembling c m v w = record { phase = 2; countdown = c; value = v; wrong = w; look = m }
+
+-- a 1 is the mark that starts a search
+abbrev pub afterMark : Bool → Receiver
+afterMark x = cond x searching waiting
+
+-- nothing arrives
+abbrev pub quiet : Receiver → Sampled
+quiet r = record { next = r; heard = Nothing }
+
+-- the next look stands F ticks on
+abbrev pub lookNext : Format → ℕ → ℕ → ℕ → Sampled
+lookNext f m v w = quiet (assembling (f .factor - 1) m v w)
+
+-- data bit i, in a byte
+abbrev pub withBit : ℕ → ℕ → Bool → ℕ
+withBit v i x = (v + bit x * 2 ^ i) % 256
+
+-- the start again: a 1 is a false start, and serves as the mark
+abbrev pub startLook : Format → Bool → Sampled
+startLook f x = cond x (quiet (afterMark true)) (lookNext f 1 0 0)
+
+-- the parity of the value so far
+abbrev pub parityLook : Format → ℕ → ℕ → Bool → Sampled
+parityLook f m v x = lookNext f m v (bit (differ x (parityBit f v)))
+
+-- the stop: the character arrives; a stop of 0 is a framing fault, and a 1 must come before the next search
+abbrev pub stopLook : ℕ → ℕ → Bool → Sampled
+stopLook v w x = record { next = afterMark x; heard = Character (record { value = v; parity = on w; framing = not x }) }
+
+-- look number m sees x: 0 is at the start, 1 to n at the data, then parity, then stop
+abbrev pub lookAt : Format → ℕ → ℕ → ℕ → Bool → Sampled
+lookAt f zero v w x = startLook f x
+lookAt f (suc i) v w x = part f i (lookNext f (suc (suc i)) (withBit v i x) w) (parityLook f (suc (suc i)) v x) (stopLook v w x)
+
+-- a tick of a character under way: samples between looks are not looked at
+abbrev pub under : Format → ℕ → ℕ → ℕ → ℕ → Bool → Sampled
+under f zero m v w x = lookAt f m v w x
+under f (suc c) m v w x = quiet (assembling c m v w)
+
+-- one sample x, by the receiver's phase: 0 waits, 1 searches, any other assembles
+unfoldable pub sample : Format → Receiver → Bool → Sampled
+sample f r x =
+    cond (eqb (r .phase) 0)
+    (quiet (afterMark x))
+    (cond (eqb (r .phase) 1) (cond x (quiet searching) (under f (half f) 0 0 0 false)) (under f (r .countdown) (r .look) (r .value) (r .wrong) x))
+
+-- == many samples ==
+
+-- what a sample's answer adds to the list: nothing, or the character that arrived with sample number k
+abbrev pub tell : ℕ → Heard → List Arrived → List Arrived
+tell k Nothing rest = rest
+tell k (Character a) rest = record { at = k; arrival = a } ∷ rest
+
+-- what arrives of the samples that follow on k others
+abbrev pub arrivals : Format → Receiver → ℕ → List Bool → List Arrived
+arrivals f r k [] = []
+arrivals f r k (x ∷ xs) = tell (suc k) (sample f r x .heard) (arrivals f (sample f r x .next) (suc k) xs)
+
+-- the receiver after them
+abbrev pub after : Format → Receiver → List Bool → Receiver
+after f r [] = r
+after f r (x ∷ xs) = after f (sample f r x .next) xs

@@ -1,0 +1,170 @@
+-- What a tick of a half does, for those who run many of them: a frame goes on whatever the tick is told, and a receiver that is on takes the
+-- line's own steps in one format.
+-- Assumes nothing.
+use Prim.Native.Nat.{ℕ, suc, _+_, _*_, _%_, _≤_, _<_}
+use native.Mathlib.Nat.{mul-le-mul, mod-eq-of-lt}
+use native.Mathlib.Omega.{arith}
+use mathlib.Core.Path.{_≡_, refl, ap, _∙_}
+use mathlib.Core.Bool.{Bool, true, false, cond, _&&_}
+use borrow.Author.Tests.{lt-ltb, le-ltb}
+use Rattle.line_rules.specs.declared.Format.{Format}
+use Rattle.line_rules.specs.declared.Receiver.{Receiver}
+use Rattle.line_rules.specs.declared.Arrival.{Arrival}
+use Rattle.line_rules.specs.declared.Heard.{Heard}
+use Rattle.line_rules.specs.declared.Heard.the-variants.{Nothing, Character}
+use Rattle.line_rules.specs.declared.Sampled.{Sampled}
+use Rattle.line_rules.specs.Sending.{on, parityBits, frameLength}
+use Rattle.line_rules.specs.Range.{Bounds}
+use Rattle.line_rules.specs.Receiving.{sample}
+use Rattle.line_rules.proofs.Bits.{at-most-one}
+use Rattle.link_rules.specs.declared.Frame.{Frame}
+use Rattle.link_rules.specs.declared.SenderHalf.{SenderHalf}
+use Rattle.link_rules.specs.declared.ReceiverHalf.{ReceiverHalf}
+use Rattle.link_rules.specs.declared.Received.{Received}
+use Rattle.link_rules.specs.declared.Sent.{Sent}
+use Rattle.link_rules.specs.Parts.{noFrame, noFormat, dropped}
+use Rattle.link_rules.specs.Transmitting.{nextPlace, frameNext, frameTick, beginTick, breakTick, markTick, transmit}
+use Rattle.line_rules.proofs.Choice.{either}
+use Rattle.link_rules.specs.Hearing.{underWay, formatFor, stepped, arrives, take, hear, receive}
+
+-- == the sender ==
+
+module _ (s : SenderHalf) (ready broken : Bool) (f : Format) where
+  -- a frame begun is finished: nothing that the tick is told matters
+  pub transmit-under : on (s .frame .place) ≡ true → transmit s ready broken f ≡ frameTick s (s .frame) false
+  unfolding transmit
+  transmit-under t = rw t
+
+  pub transmit-begins : on (s .frame .place) ≡ false → ready ≡ true → broken ≡ false → on (s .guard) ≡ false → on (s .full) ≡ true
+      → transmit s ready broken f ≡ beginTick s f
+  unfolding transmit
+  transmit-begins t r b g w = rw (t, r, b, g, w)
+
+  -- where nothing may start and no frame is under way 1 is sent, and a guard falls all the same
+  pub transmit-idle : on (s .frame .place) ≡ false → ready ≡ false → transmit s ready broken f ≡ markTick s
+  unfolding transmit
+  transmit-idle t r = rw (t, r) (either (λ (o : Sent). o ≡ markTick s) (on (s .guard)) {x = markTick s} {y = markTick s} refl refl)
+
+  -- the holding register is empty after a frame's first tick, and as it was after any other
+  pub full-after : transmit s ready broken f .half .full ≡ cond (transmit s ready broken f .began) 0 (s .full)
+  unfolding transmit
+  full-after =
+      let P : Sent → Type 0 = λ o. o .half .full ≡ cond (o .began) 0 (s .full) in
+      either P (on (s .frame .place)) {x = frameTick s (s .frame) false} refl
+      (either P (ready && broken) {x = breakTick s f} refl
+      (either P (on (s .guard)) {x = markTick s} refl
+      (either P (ready && on (s .full)) {x = beginTick s f} {y = markTick s} refl refl)))
+
+-- L is at most 768
+pub length-bound : (f : Format) → Bounds f → frameLength f ≤ 768
+length-bound f b =
+    let l : suc (f .length + parityBits f) ≤ 10 = omega (arith, b .short, at-most-one (on (f .parity))) in
+    let m : f .factor * suc (f .length + parityBits f) ≤ 64 * 10 = mul-le-mul (b .few) l in
+    omega (arith, m, b .ends, b .few)
+
+module _ (f : Format) (i : ℕ) (fits : frameLength f ≤ 768) where
+  counted : i < frameLength f → (i + 1) % 65536 ≡ suc i
+  counted h = let e : (i + 1) % 65536 ≡ i + 1 = mod-eq-of-lt (omega arith) in e ∙ (let q : i + 1 ≡ suc i = omega arith in q)
+
+  pub next-place : suc i < frameLength f → nextPlace f i ≡ suc i
+  next-place h = rw (counted (omega arith), lt-ltb (suc i) (frameLength f) h)
+
+  pub last-place : suc i ≡ frameLength f → nextPlace f i ≡ 0
+  last-place h = rw (counted (omega arith), le-ltb (suc i) (frameLength f) (omega arith))
+
+abbrev pub frameOf : Format → ℕ → ℕ → Frame
+frameOf f c i = record { character = c; format = f; place = i }
+
+pub frame-goes-on : (f : Format) (c i : ℕ) → frameLength f ≤ 768 → suc i < frameLength f → frameNext (frameOf f c i) ≡ frameOf f c (suc i)
+frame-goes-on f c i fits h = ap (λ (k : ℕ). cond (on k) (frameOf f c k) noFrame) (next-place f i fits h) ∙ rw (lt-ltb 0 (suc i) (omega arith))
+
+pub frame-ends : (f : Format) (c i : ℕ) → frameLength f ≤ 768 → suc i ≡ frameLength f → frameNext (frameOf f c i) ≡ noFrame
+frame-ends f c i fits h = ap (λ (k : ℕ). cond (on k) (frameOf f c k) noFrame) (last-place f i fits h)
+
+-- == the receiver ==
+
+abbrev any : Heard → Bool
+any h = arrives (λ (a : Arrival). true) h
+
+take-unread : (r : ReceiverHalf) (h : Heard) → on (take r h .half .unread) ≡ cond (any (take r h .heard)) true (on (r .unread))
+take-unread r Nothing = refl
+take-unread r (Character a) = refl
+
+take-overrun : (r : ReceiverHalf) (h : Heard) → take r h .overrun ≡ (any (take r h .heard) && on (r .unread))
+take-overrun r Nothing = refl
+take-overrun r (Character a) = refl
+
+module _ (r : ReceiverHalf) (live : Bool) (f : Format) (x : Bool) where
+  abbrev tick : Received
+  tick = receive r live f x
+
+  abbrev sampled : Sampled
+  sampled = sample (formatFor r f) (r .state) x
+
+  -- an arrival fills the register ..
+  pub unread-after : on (tick .half .unread) ≡ cond (any (tick .heard)) true (on (r .unread))
+  unfolding receive
+  unread-after =
+      either (λ (o : Received). on (o .half .unread) ≡ cond (any (o .heard)) true (on (r .unread))) live
+      {x = hear r (formatFor r f) x} {y = record { half = dropped r; heard = Nothing; overrun = false }}
+      (take-unread (stepped r (formatFor r f) (sampled .next)) (sampled .heard)) refl
+
+  -- .. and tells whether it found it unread
+  pub overrun-told : tick .overrun ≡ (any (tick .heard) && on (r .unread))
+  unfolding receive
+  overrun-told =
+      either (λ (o : Received). o .overrun ≡ (any (o .heard) && on (r .unread))) live
+      {x = hear r (formatFor r f) x} {y = record { half = dropped r; heard = Nothing; overrun = false }}
+      (take-overrun (stepped r (formatFor r f) (sampled .next)) (sampled .heard)) refl
+
+-- a tick that is off drops the character under way, waits for a 1 and brings nothing
+pub receive-off : (r : ReceiverHalf) (f : Format) (x : Bool) → receive r false f x ≡ record { half = dropped r; heard = Nothing; overrun = false }
+unfolding receive
+receive-off r f x = refl
+
+-- a character under way is read in the format of its tick 0, whatever the tick is told
+pub receive-under : (r : ReceiverHalf) (f : Format) (x : Bool) → underWay (r .state) ≡ true → receive r true f x ≡ hear r (r .format) x
+unfolding receive
+receive-under r f x u = ap (λ (b : Bool). hear r (cond b (r .format) f) x) u
+
+-- the half reads in the format f: it has no character under way, or one that began in f
+abbrev pub Tuned : Format → ReceiverHalf → Type 0
+Tuned f r = formatFor r f ≡ f
+
+-- after a sample that was read in f it does
+pub stepped-tuned : (f : Format) (r : ReceiverHalf) (s : Receiver) → Tuned f (stepped r f s)
+stepped-tuned f r s = kept (underWay s)
+  where
+    kept : (b : Bool) → cond b (cond b f noFormat) f ≡ f
+    kept true = refl
+    kept false = refl
+
+take-state : (r : ReceiverHalf) (h : Heard) → take r h .half .state ≡ r .state
+take-state r Nothing = refl
+take-state r (Character a) = refl
+
+take-format : (r : ReceiverHalf) (h : Heard) → take r h .half .format ≡ r .format
+take-format r Nothing = refl
+take-format r (Character a) = refl
+
+take-heard : (r : ReceiverHalf) (h : Heard) → take r h .heard ≡ h
+take-heard r Nothing = refl
+take-heard r (Character a) = refl
+
+module _ (f : Format) (r : ReceiverHalf) (x : Bool) (t : Tuned f r) where
+  pub receive-is : receive r true f x ≡ hear r f x
+  unfolding receive
+  receive-is = ap (λ (g : Format). hear r g x) t
+
+  -- its state and what it hears are the line's own step
+  pub hear-state : receive r true f x .half .state ≡ sample f (r .state) x .next
+  hear-state = ap (λ (o : Received). o .half .state) receive-is ∙ take-state (stepped r f (sample f (r .state) x .next)) (sample f (r .state) x .heard)
+
+  pub hear-heard : receive r true f x .heard ≡ sample f (r .state) x .heard
+  hear-heard = ap (λ (o : Received). o .heard) receive-is ∙ take-heard (stepped r f (sample f (r .state) x .next)) (sample f (r .state) x .heard)
+
+  hear-format : receive r true f x .half .format ≡ cond (underWay (sample f (r .state) x .next)) f noFormat
+  hear-format = ap (λ (o : Received). o .half .format) receive-is ∙ take-format (stepped r f (sample f (r .state) x .next)) (sample f (r .state) x .heard)
+
+  pub hear-tuned : Tuned f (receive r true f x .half)
+  hear-tuned = rw (hear-state, hear-format) (stepped-tuned f r (sample f (r .state) x .next))

@@ -1,0 +1,3 @@
+pub mod SenderRange
+pub mod ReceiverRange
+pub mod Halves

@@ -1,0 +1,57 @@
+-- A receive tick of the receiving half: document 01, "Receiving, by receive ticks".
+-- Assumes nothing.
+use Prim.Native.Nat.{ℕ}
+use mathlib.Core.Bool.{Bool, false, cond}
+use lib.Dec.{ltb}
+use Rattle.line_rules.specs.declared.Format.{Format}
+use Rattle.line_rules.specs.declared.Receiver.{Receiver}
+use Rattle.line_rules.specs.declared.Arrival.{Arrival}
+use Rattle.line_rules.specs.declared.Heard.{Heard}
+use Rattle.line_rules.specs.declared.Heard.the-variants.{Nothing, Character}
+use Rattle.line_rules.specs.declared.Sampled.{Sampled}
+use Rattle.line_rules.specs.Sending.{on}
+use Rattle.line_rules.specs.Receiving.{sample}
+use Rattle.link_rules.specs.declared.ReceiverHalf.{ReceiverHalf}
+use Rattle.link_rules.specs.declared.Received.{Received}
+use Rattle.link_rules.specs.Parts.{noFormat, dropped}
+
+-- a character is under way: it neither waits for a 1 nor searches for a 0
+abbrev pub underWay : Receiver → Bool
+underWay s = ltb 1 (s .phase)
+
+-- the format of a character is that of its tick 0
+abbrev pub formatFor : ReceiverHalf → Format → Format
+formatFor r f = cond (underWay (r .state)) (r .format) f
+
+-- the format g is kept while a character is under way
+abbrev pub keptFormat : Receiver → Format → Format
+keptFormat s g = cond (underWay s) g noFormat
+
+-- after a sample that was read in the format g
+abbrev pub stepped : ReceiverHalf → Format → Receiver → ReceiverHalf
+stepped r g s = record { state = s; format = keptFormat s g; holding = r .holding; unread = r .unread }
+
+-- a character enters the holding register, full or not
+abbrev pub holds : ReceiverHalf → ℕ → ReceiverHalf
+holds r v = record { state = r .state; format = r .format; holding = v; unread = 1 }
+
+-- an arrival that is so
+abbrev pub arrives : (Arrival → Bool) → Heard → Bool
+arrives p Nothing = false
+arrives p (Character a) = p a
+
+-- what the sample brought, and whether it found the register unread
+abbrev pub take : ReceiverHalf → Heard → Received
+take r Nothing = record { half = r; heard = Nothing; overrun = false }
+take r (Character a) = record { half = holds r (a .value); heard = Character a; overrun = on (r .unread) }
+
+abbrev pub taken : ReceiverHalf → Format → Sampled → Received
+taken r g o = take (stepped r g (o .next)) (o .heard)
+
+-- a tick while receive is on
+abbrev pub hear : ReceiverHalf → Format → Bool → Received
+hear r g x = taken r g (sample g (r .state) x)
+
+-- the tick, told whether receive is on, the format and the level; one that is off looks at nothing
+unfoldable pub receive : ReceiverHalf → Bool → Format → Bool → Received
+receive r live f x = cond live (hear r (formatFor r f) x) (record { half = dropped r; heard = Nothing; overrun = false })

@@ -1,0 +1,48 @@
+-- The two halves with one of their parts replaced, and the halves in which nothing is under way: those fields are 0.
+-- Assumes nothing.
+use Prim.Native.Nat.{ℕ}
+use Rattle.line_rules.specs.declared.Format.{Format}
+use Rattle.line_rules.specs.Receiving.{waiting}
+use Rattle.link_rules.specs.declared.Frame.{Frame}
+use Rattle.link_rules.specs.declared.SenderHalf.{SenderHalf}
+use Rattle.link_rules.specs.declared.ReceiverHalf.{ReceiverHalf}
+
+abbrev pub noFormat : Format
+noFormat = record { factor = 0; length = 0; parity = 0; even = 0; stop = 0 }
+
+abbrev pub noFrame : Frame
+noFrame = record { character = 0; format = noFormat; place = 0 }
+
+-- == the sender ==
+
+-- nothing waits, nothing is under way
+abbrev pub idleSender : SenderHalf
+idleSender = record { frame = noFrame; holding = 0; full = 0; guard = 0 }
+
+abbrev pub withFrame : SenderHalf → Frame → SenderHalf
+withFrame s g = record { frame = g; holding = s .holding; full = s .full; guard = s .guard }
+
+abbrev pub withGuard : SenderHalf → ℕ → SenderHalf
+withGuard s k = record { frame = s .frame; holding = s .holding; full = s .full; guard = k }
+
+-- a character is written: a full holding register takes it in place of the one that waits
+abbrev pub loaded : SenderHalf → ℕ → SenderHalf
+loaded s v = record { frame = s .frame; holding = v; full = 1; guard = s .guard }
+
+-- the waiting character has left the holding register
+abbrev pub unloaded : SenderHalf → SenderHalf
+unloaded s = record { frame = s .frame; holding = 0; full = 0; guard = s .guard }
+
+-- == the receiver ==
+
+-- nothing has come, and it waits for a 1
+abbrev pub idleReceiver : ReceiverHalf
+idleReceiver = record { state = waiting; format = noFormat; holding = 0; unread = 0 }
+
+-- the character under way is dropped, and the receiver waits for a 1; the holding register stays
+abbrev pub dropped : ReceiverHalf → ReceiverHalf
+dropped r = record { state = waiting; format = noFormat; holding = r .holding; unread = r .unread }
+
+-- the holding register is read or emptied: it still gives what it last held
+abbrev pub emptied : ReceiverHalf → ReceiverHalf
+emptied r = record { state = r .state; format = r .format; holding = r .holding; unread = 0 }

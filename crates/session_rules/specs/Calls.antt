@@ -1,0 +1,89 @@
+-- What a record does to the two joined devices, and what is said of it: document 01, "The session text" and "Refusal numbers".
+-- Assumes nothing.
+use Prim.Native.Nat.{ℕ}
+use Prim.Native.Char.{code}
+use mathlib.Core.Bool.{cond}
+use mathlib.Core.List.{List}
+use lib.Dec.{eqb, ltb}
+use lib.ListN.{length}
+use Rattle.fields.specs.Parted.{fieldsOf}
+use Rattle.ins2651_rules.specs.declared.Device.{Device}
+use Rattle.ins2651_rules.specs.declared.Outcome.{Outcome}
+use Rattle.ins2651_rules.specs.Shape.{resetDevice}
+use Rattle.ins2651_rules.specs.RegisterReads.{read}
+use Rattle.ins2651_rules.specs.RegisterWrites.{write}
+use Rattle.ins2651_rules.specs.Pinning.{setPins}
+use Rattle.joined_rules.specs.declared.Pair.{Pair}
+use Rattle.joined_rules.specs.Joining.{ticks}
+use Rattle.records.specs.declared.Record.{Record}
+use Rattle.records.specs.declared.Record.the-variants.{Write, Read, Pins, Reset, Ticks, Shapeless}
+use Rattle.rows.specs.declared.Row.{Row}
+use Rattle.rows.specs.declared.Row.the-variants as row
+use Rattle.rows.specs.Text.{rowText}
+use Rattle.session_rules.specs.declared.Said.{Said}
+use Rattle.session_rules.specs.declared.Said.the-variants.{Nothing, Value, Refusal}
+use Rattle.session_rules.specs.declared.Reply.{Reply}
+use Rattle.records.specs.Records.{recordOf}
+
+-- both devices begin as after reset
+abbrev pub freshPair : Pair
+freshPair = record { a = resetDevice; b = resetDevice }
+
+-- == one unit of the two ==
+
+-- A, or else B
+abbrev pub deviceOf : Pair → ℕ → Device
+deviceOf p unit = cond (eqb unit (code "A")) (p .a) (p .b)
+
+abbrev pub putBack : Pair → ℕ → Device → Pair
+putBack p unit d = cond (eqb unit (code "A")) (record { a = d; b = p .b }) (record { a = p .a; b = d })
+
+-- == replies ==
+
+-- what is said of a call that would say s if it were done
+abbrev pub verdict : ℕ → Said → Said
+verdict refusal s = cond (eqb refusal 0) s (Refusal refusal)
+
+abbrev pub replied : Pair → ℕ → Device → Said → Reply
+replied p unit d s = record { pair = putBack p unit d; said = s }
+
+-- a write or a pin call
+abbrev pub answered : Pair → ℕ → Outcome → Reply
+answered p unit o = replied p unit (o .device) (verdict (o .refusal) Nothing)
+
+-- a read shows its value where it is done
+abbrev pub reading : Pair → ℕ → ℕ → Reply
+reading p unit address =
+    replied p unit (read (deviceOf p unit) address .device)
+    (verdict (read (deviceOf p unit) address .refusal) (Value unit address (read (deviceOf p unit) address .value)))
+
+-- a line that is refused for itself leaves the pair alone
+abbrev pub refused : Pair → ℕ → Reply
+refused p n = record { pair = p; said = Refusal n }
+
+unfoldable pub obey : Pair → Record → Reply
+obey p (Write unit address v) = answered p unit (write (deviceOf p unit) address v)
+obey p (Read unit address) = reading p unit address
+obey p (Pins unit dsr dcd cts) = answered p unit (setPins (deviceOf p unit) dsr dcd cts)
+obey p (Reset unit) = replied p unit resetDevice Nothing
+obey p (Ticks count) = record { pair = ticks count p; said = Nothing }
+obey p Shapeless = refused p 6
+
+-- a line: 7 over 64 bytes, else 6 for no shape, else the device's number, else done
+unfoldable pub lineReply : Pair → List ℕ → Reply
+lineReply p line = cond (ltb 64 (length line)) (refused p 7) (obey p (recordOf (fieldsOf line)))
+
+-- document 01's number for each case: 0 is done
+abbrev pub number : Said → ℕ
+number Nothing = 0
+number (Value unit address v) = 0
+number (Refusal n) = n
+
+-- the output's line for what is said, by the line's number
+abbrev pub rowOf : ℕ → Said → Row
+rowOf line Nothing = row.Nothing
+rowOf line (Value unit address v) = row.Value unit address v
+rowOf line (Refusal n) = row.Refusal line n
+
+unfoldable pub saidText : ℕ → Said → List ℕ
+saidText line s = rowText (rowOf line s)
