@@ -33,7 +33,6 @@ use line_rules::Format;
 use line_rules::Heard;
 use link_rules::Received;
 use link_rules::ReceiverHalf;
-use link_rules::SenderHalf;
 use link_rules::Sent;
 
 // == bits ==

@@ -5,7 +5,7 @@ use native.Mathlib.Omega.{arith}
 use mathlib.Core.Path.{_≡_, refl, sym, ap, ap₂, subst, _∙_}
 use mathlib.Core.Bool.{Bool, true, false, cond, not, _&&_, _||_}
 use mathlib.Core.List.{List, [], _∷_}
-use lib.Dec.{ltb, leb, eqb}
+use lib.Dec.{leb, eqb}
 use borrow.Author.Tests.{ltb-true, ltb-false, leb-true, eq-eqb, eqb-true, ne-eqb, eqb-false}
 use Rattle.line_rules.specs.declared.Arrival.{Arrival}
 use Rattle.line_rules.specs.declared.Heard.{Heard}

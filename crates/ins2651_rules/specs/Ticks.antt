@@ -1,4 +1,4 @@
--- The two ticks: document 01, "Sending, by transmit ticks" and "Receiving, by receive ticks". What a half does at a tick stands in link.
+-- The two ticks: document 01, "Sending, by transmit ticks" and "Receiving, by receive ticks". What a half does at a tick stands in link_rules.
 -- Assumes nothing.
 use Prim.Native.Nat.{ℕ}
 use mathlib.Core.Bool.{Bool, cond, _&&_}

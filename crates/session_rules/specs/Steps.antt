@@ -1,4 +1,4 @@
--- A session's lines as steps of the bench of two joined devices (`joined`, specs/Bench.antt): so demand 3 reads on a session's text too.
+-- A session's lines as steps of the bench of two joined devices (`joined_rules`, specs/Bench.antt): so demand 3 reads on a session's text too.
 -- Assumes nothing.
 use Prim.Native.Nat.{ℕ}
 use Prim.Native.Char.{code}

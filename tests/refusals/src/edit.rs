@@ -21,14 +21,14 @@ pub struct Program {
     pub wrong: String,
     pub refused: Vec<String>,
     pub falls: Vec<String>,
-    /// the folder (src, specs or proofs) of each pair
-    pub parts: Vec<String>,
+    /// the file of each pair, and what it puts there
+    pub pairs: Vec<(String, String)>,
 }
 
 impl Program {
     /// An edit of the definitions too, or of them alone: a promise refuses it.
     pub fn is_alike(&self) -> bool {
-        self.parts.iter().any(|part| part == "specs")
+        self.pairs.iter().any(|(file, _)| file.starts_with("specs/"))
     }
 }
 
@@ -46,21 +46,20 @@ fn heading(comment: &str) -> Option<(&str, &str)> {
 /// The wrong programs of an edit whose file is STEM.edit, or what is wrong with its lines.
 pub fn programs(stem: &str, text: &str) -> Result<Vec<Program>, String> {
     let mut found: Vec<Program> = Vec::new();
-    let mut part = String::new();
+    let mut file = String::new();
     for line in text.lines() {
         let none = || format!("no '# NAME: what is wrong' stands above '{line}'");
         if let Some(list) = line.strip_prefix("# refused at: ") {
             found.last_mut().ok_or_else(none)?.refused.extend(names(list));
         } else if let Some(list) = line.strip_prefix("# falls with it: ") {
             found.last_mut().ok_or_else(none)?.falls.extend(names(list));
-        } else if let Some(comment) = line.strip_prefix("# ") {
-            if let Some((name, wrong)) = heading(comment) {
-                found.push(Program { name: name.into(), wrong: wrong.into(), ..Program::default() });
-            }
-        } else if let Some(file) = line.strip_prefix("file: ") {
-            part = file.split('/').next().unwrap_or_default().to_string();
-        } else if line.starts_with("new:") {
-            found.last_mut().ok_or_else(none)?.parts.push(part.clone());
+        } else if let Some(comment) = line.strip_prefix('#') {
+            let (name, wrong) = heading(comment.trim()).ok_or_else(|| format!("'{line}' is of no known form"))?;
+            found.push(Program { name: name.into(), wrong: wrong.into(), ..Program::default() });
+        } else if let Some(named) = line.strip_prefix("file: ") {
+            file = named.to_string();
+        } else if let Some(new) = line.strip_prefix("new:") {
+            found.last_mut().ok_or_else(none)?.pairs.push((file.clone(), new.strip_prefix(' ').unwrap_or(new).to_string()));
         }
     }
     fit(stem, &found)?;
@@ -76,14 +75,14 @@ fn fit(stem: &str, found: &[Program]) -> Result<(), String> {
         if program.refused.is_empty() {
             return Err(format!("{name} does not say where it is refused"));
         }
-        if program.parts.is_empty() {
+        if program.pairs.is_empty() {
             return Err(format!("{name} has no 'old:' and 'new:' pair"));
         }
         if found.len() == 1 && name != stem {
             return Err(format!("its one wrong program is called {name}"));
         }
-        if found.len() > 1 && program.is_alike() {
-            return Err(format!("{name} edits a definition, so it is an edit of its own"));
+        if found.len() > 1 && (program.is_alike() || !program.falls.is_empty()) {
+            return Err(format!("{name} is refused by laws, so it is an edit of its own"));
         }
     }
     let mut seen = HashSet::new();

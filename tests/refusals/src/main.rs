@@ -3,7 +3,6 @@
 //! Both end with 1 where an edit's lines are not of their form, and `logs` where a log does not show what they say.
 
 use refusals::project::{edits, faults, table};
-use std::path::Path;
 use std::process::ExitCode;
 
 fn failed(lines: &[String]) -> ExitCode {
@@ -23,7 +22,7 @@ fn main() -> ExitCode {
         Some("table") => print!("{}", table(&all)),
         Some("logs") => {
             let logs = root.join("target").join("must-fail");
-            let lines: Vec<String> = all.iter().flat_map(|edit| faults(edit, &logs.join(Path::new(&edit.crate_name)).join(&edit.label))).collect();
+            let lines: Vec<String> = all.iter().flat_map(|edit| faults(edit, &logs.join(&edit.crate_name).join(&edit.label))).collect();
             if !lines.is_empty() {
                 return failed(&lines);
             }

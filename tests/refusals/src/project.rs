@@ -1,7 +1,7 @@
 //! The edits of a project, the logs that `rt ci` left of them, and the table of `docs/PROMISES.md`.
 
 use crate::edit::{programs, Program};
-use crate::log::{declaration_refused, function, function_refused, refusals, Refusal, Why};
+use crate::log::{declaration_refused, declared, function, function_refused, functions_with, refusals, Refusal, Why};
 use std::collections::BTreeMap;
 use std::fs;
 use std::path::{Path, PathBuf};
@@ -55,14 +55,23 @@ pub fn faults(edit: &Edit, room: &Path) -> Vec<String> {
     let said = refusals(&log, &room.to_string_lossy());
     let mut faults = Vec::new();
     for refusal in &said {
-        if let Refusal::Declaration { file, name, .. } = refusal {
-            if file.starts_with("specs/") {
+        match refusal {
+            Refusal::Declaration { file, name, .. } if file.starts_with("specs/") => {
                 faults.push(format!("{}/{}: the definition {name} itself is refused, in {file}", edit.crate_name, edit.label));
             }
+            Refusal::Nameless { line } => faults.push(format!("{}/{}: an error that names no declaration: {line}", edit.crate_name, edit.label)),
+            _ => {}
         }
     }
     for program in &edit.programs {
         let full = format!("{}/{}", edit.crate_name, program.name);
+        faults.extend(elsewhere(program, room).into_iter().map(|other| format!("{full}: it changes {other}, and does not say that it is refused there")));
+        for name in program.refused.iter().filter(|name| function(room, name).is_none()).chain(&program.falls) {
+            let times = declared(room, name);
+            if times != 1 {
+                faults.push(format!("{full}: {name} is declared {times} times in proofs/"));
+            }
+        }
         for name in &program.refused {
             let own = match function(room, name) {
                 Some(function) => function_refused(&function, &said),
@@ -81,6 +90,21 @@ pub fn faults(edit: &Edit, room: &Path) -> Vec<String> {
     faults
 }
 
+/// A function that a wrong body stands in and that the program does not name, where code alone is wrong.
+fn elsewhere(program: &Program, room: &Path) -> Option<String> {
+    let code = program.pairs.iter().filter(|(file, _)| file.starts_with("src/") && !program.is_alike());
+    for (file, new) in code {
+        let module = file.trim_start_matches("src/").trim_end_matches(".rt");
+        let path = if ["lib", "main"].contains(&module) { String::new() } else { format!("{module}::") };
+        let source = fs::read_to_string(room.join(file)).unwrap_or_default();
+        let inside: Vec<String> = functions_with(&source, new).iter().map(|name| format!("{path}{name}")).collect();
+        if !inside.is_empty() && !inside.iter().any(|name| program.refused.contains(name)) {
+            return Some(inside.join(", "));
+        }
+    }
+    None
+}
+
 fn code(names: &[String]) -> String {
     names.iter().map(|name| format!("`{name}`")).collect::<Vec<_>>().join(", ")
 }
@@ -92,7 +116,7 @@ pub fn table(edits: &[Edit]) -> String {
         for program in &edit.programs {
             let mut at = code(&program.refused);
             if !program.falls.is_empty() {
-                at = format!("{at}; with it falls {}", code(&program.falls));
+                at = format!("{at}; {} with it", code(&program.falls));
             }
             // where the crate has no code, a wrong definition stands by itself
             let kind = if program.is_alike() && !edit.crate_name.ends_with("_rules") { "both: " } else { "" };

@@ -14,6 +14,7 @@ fn room(name: &str, log: &str) -> PathBuf {
     fs::create_dir_all(room.join("proofs/proved")).unwrap();
     fs::write(room.join("src/lib.rt"), SOURCE).unwrap();
     fs::write(room.join("proofs/proved/Proof.antt"), "").unwrap();
+    fs::write(room.join("proofs/Laws.antt"), "law : A\nlaw = a\n\npub promise : A\npromise = law\n\ntwice : A\n  where\n    twice : A\n").unwrap();
     fs::write(room.join(".log"), log.replace("ROOM", &room.to_string_lossy())).unwrap();
     room
 }
@@ -24,7 +25,7 @@ fn edit(text: &str) -> Edit {
 
 fn said(name: &str, lines: &str, log: &str) -> Vec<String> {
     let room = room(name, log);
-    let found = faults(&edit(&format!("# wrong: so\n{lines}\nfile: src/lib.rt\nold: a\nnew: b\n")), &room);
+    let found = faults(&edit(&format!("# wrong: so\n{lines}\nfile: src/lib.rt\nold: a\nnew: // a crate\n")), &room);
     fs::remove_dir_all(room).unwrap();
     found
 }
@@ -41,8 +42,13 @@ fn a_declaration_is_refused_by_an_error_of_its_own() {
 fn a_declaration_that_only_falls_is_not_refused_there() {
     assert_eq!(said("falls", "# refused at: promise", &format!("{OWN}{FALLS}")).len(), 1);
     assert_eq!(said("other", "# refused at: law\n# falls with it: law", &format!("{OWN}{FALLS}")).len(), 1);
-    assert_eq!(said("absent", "# refused at: lemma", OWN).len(), 1);
+    assert_eq!(said("absent", "# refused at: lemma", OWN).len(), 2);
     assert_eq!(said("nothing", "# refused at: law\n# falls with it: promise", OWN).len(), 1);
+}
+
+#[test]
+fn a_name_is_one_declarations() {
+    assert_eq!(said("twice", "# refused at: twice", &OWN.replace("`law`", "`twice`")), ["line/wrong: twice is declared 2 times in proofs/"]);
 }
 
 #[test]
@@ -82,6 +88,23 @@ fn a_definition_that_is_refused_itself_is_told() {
 }
 
 #[test]
+fn an_error_that_names_no_declaration_is_told() {
+    assert_eq!(said("nameless", "# refused at: law", &format!("{OWN}ROOM/proofs/Laws.antt:3:4: error: this cannot be read\n")).len(), 1);
+    assert_eq!(said("scope", "# refused at: law", &OWN.replace("`omega`: the goal does not follow", "`rule` is not in scope")).len(), 1);
+}
+
+#[test]
+fn a_wrong_body_is_refused_at_its_own_function() {
+    let note = "note: ROOM/src/lib.rt:2:1: it is not proved that what the function ensures holds when it returns (`returns`)\n";
+    for (new, faulty) in [("x + 1", 0), ("plain(x)", 1), ("// a crate", 0)] {
+        let room = room("body", note);
+        let found = faults(&edit(&format!("# wrong: so\n# refused at: plain\nfile: src/lib.rt\nold: a\nnew:     {new}\n").replace(":     //", ": //")), &room);
+        assert_eq!(found.len(), faulty, "{new}: {found:?}");
+        fs::remove_dir_all(room).unwrap();
+    }
+}
+
+#[test]
 fn the_log_is_read_by_place() {
     let room = room("place", &format!("{OWN}{FALLS}"));
     let log = fs::read_to_string(room.join(".log")).unwrap();
@@ -102,7 +125,9 @@ fn an_edit_says_what_is_wrong_and_where() {
     let two = format!("# one: so\n# refused at: f\n{pair}\n# two: so\n# refused at: g\n{pair}");
     assert_eq!(programs("many", &two).unwrap().len(), 2);
     for (stem, text) in [
-        ("x", format!("# a comment\n{pair}")),                                           // no wrong program
+        ("x", pair.to_string()),                                                         // no wrong program
+        ("x", format!("# x: so\n# refused at: f\n# falls with: g\n{pair}")),             // a line of no known form
+        ("many", two.replace("at: g", "at: g\n# falls with it: h")),                     // a promise in a gathered edit
         ("x", format!("# x: so\n{pair}")),                                               // not where
         ("x", "# x: so\n# refused at: f\n".to_string()),                                 // no pair
         ("y", format!("# x: so\n# refused at: f\n{pair}")),                              // another name
@@ -116,5 +141,5 @@ fn an_edit_says_what_is_wrong_and_where() {
 #[test]
 fn the_table_has_a_row_for_each_wrong_program() {
     let all = [edit("# wrong: so | so\n# refused at: f, g\n# falls with it: h\nfile: specs/Rule.antt\nold: a\nnew: b\n")];
-    assert!(table(&all).ends_with("| `line/wrong` | both: so \\| so | `f`, `g`; with it falls `h` |\n"));
+    assert!(table(&all).ends_with("| `line/wrong` | both: so \\| so | `f`, `g`; `h` with it |\n"));
 }
