@@ -28,18 +28,26 @@ pub struct Program {
 impl Program {
     /// An edit of the definitions too, or of them alone: a promise refuses it.
     pub fn is_alike(&self) -> bool {
-        self.pairs.iter().any(|(file, _)| file.starts_with("specs/"))
+        self.pairs
+            .iter()
+            .any(|(file, _)| file.starts_with("specs/"))
     }
 }
 
 fn names(list: &str) -> Vec<String> {
-    list.split(',').map(|name| name.trim().to_string()).filter(|name| !name.is_empty()).collect()
+    list.split(',')
+        .map(|name| name.trim().to_string())
+        .filter(|name| !name.is_empty())
+        .collect()
 }
 
 /// `NAME: what is wrong`, where NAME is a word of small letters, digits and `_`.
 fn heading(comment: &str) -> Option<(&str, &str)> {
     let (name, wrong) = comment.split_once(": ")?;
-    let is_name = !name.is_empty() && name.chars().all(|c| c.is_ascii_lowercase() || c.is_ascii_digit() || c == '_');
+    let is_name = !name.is_empty()
+        && name
+            .chars()
+            .all(|c| c.is_ascii_lowercase() || c.is_ascii_digit() || c == '_');
     is_name.then_some((name, wrong))
 }
 
@@ -50,16 +58,28 @@ pub fn programs(stem: &str, text: &str) -> Result<Vec<Program>, String> {
     for line in text.lines() {
         let none = || format!("no '# NAME: what is wrong' stands above '{line}'");
         if let Some(list) = line.strip_prefix("# refused at: ") {
-            found.last_mut().ok_or_else(none)?.refused.extend(names(list));
+            found
+                .last_mut()
+                .ok_or_else(none)?
+                .refused
+                .extend(names(list));
         } else if let Some(list) = line.strip_prefix("# falls with it: ") {
             found.last_mut().ok_or_else(none)?.falls.extend(names(list));
         } else if let Some(comment) = line.strip_prefix('#') {
-            let (name, wrong) = heading(comment.trim()).ok_or_else(|| format!("'{line}' is of no known form"))?;
-            found.push(Program { name: name.into(), wrong: wrong.into(), ..Program::default() });
+            let (name, wrong) =
+                heading(comment.trim()).ok_or_else(|| format!("'{line}' is of no known form"))?;
+            found.push(Program {
+                name: name.into(),
+                wrong: wrong.into(),
+                ..Program::default()
+            });
         } else if let Some(named) = line.strip_prefix("file: ") {
             file = named.to_string();
         } else if let Some(new) = line.strip_prefix("new:") {
-            found.last_mut().ok_or_else(none)?.pairs.push((file.clone(), new.strip_prefix(' ').unwrap_or(new).to_string()));
+            found.last_mut().ok_or_else(none)?.pairs.push((
+                file.clone(),
+                new.strip_prefix(' ').unwrap_or(new).to_string(),
+            ));
         }
     }
     fit(stem, &found)?;
@@ -82,7 +102,9 @@ fn fit(stem: &str, found: &[Program]) -> Result<(), String> {
             return Err(format!("its one wrong program is called {name}"));
         }
         if found.len() > 1 && (program.is_alike() || !program.falls.is_empty()) {
-            return Err(format!("{name} is refused by laws, so it is an edit of its own"));
+            return Err(format!(
+                "{name} is refused by laws, so it is an edit of its own"
+            ));
         }
     }
     let mut seen = HashSet::new();

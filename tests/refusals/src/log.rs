@@ -17,13 +17,28 @@ pub enum Why {
 /// that names no declaration, as of a text that cannot be read.
 #[derive(Debug, Clone, PartialEq)]
 pub enum Refusal {
-    Declaration { file: String, name: String, why: Why },
-    Need { file: String, line: usize },
-    Nameless { line: String },
+    Declaration {
+        file: String,
+        name: String,
+        why: Why,
+    },
+    Need {
+        file: String,
+        line: usize,
+    },
+    Nameless {
+        line: String,
+    },
 }
 
 /// What is said of a proof file whose needs, whose paths into what is known at a need, or whose names are not those of the code.
-const UNFIT: [&str; 5] = ["that can be named from here", "has no field `", "expected type `tie.Need-", ".Tie.Need-", "not in scope"];
+const UNFIT: [&str; 5] = [
+    "that can be named from here",
+    "has no field `",
+    "expected type `tie.Need-",
+    ".Tie.Need-",
+    "not in scope",
+];
 
 fn why(message: &str) -> Why {
     if message.contains("was not admitted (") {
@@ -51,13 +66,32 @@ pub fn refusals(log: &str, room: &str) -> Vec<Refusal> {
     for (at, line) in lines.iter().enumerate() {
         if let Some((path, rest)) = line.split_once(": error: ") {
             // the message goes on in the lines that are set in
-            let more = lines[at + 1..].iter().take_while(|next| next.starts_with("  "));
-            let message: String = std::iter::once(rest).chain(more.copied()).collect::<Vec<_>>().join("\n");
-            match (place(path, room), message.strip_prefix('`').and_then(|text| text.split_once("`:"))) {
-                (Some((file, _)), Some((name, message))) => found.push(Refusal::Declaration { file, name: name.into(), why: why(message) }),
-                _ => found.push(Refusal::Nameless { line: line.to_string() }),
+            let more = lines[at + 1..]
+                .iter()
+                .take_while(|next| next.starts_with("  "));
+            let message: String = std::iter::once(rest)
+                .chain(more.copied())
+                .collect::<Vec<_>>()
+                .join("\n");
+            match (
+                place(path, room),
+                message
+                    .strip_prefix('`')
+                    .and_then(|text| text.split_once("`:")),
+            ) {
+                (Some((file, _)), Some((name, message))) => found.push(Refusal::Declaration {
+                    file,
+                    name: name.into(),
+                    why: why(message),
+                }),
+                _ => found.push(Refusal::Nameless {
+                    line: line.to_string(),
+                }),
             }
-        } else if let Some((path, _)) = line.strip_prefix("note: ").and_then(|note| note.split_once(": it is not proved that ")) {
+        } else if let Some((path, _)) = line
+            .strip_prefix("note: ")
+            .and_then(|note| note.split_once(": it is not proved that "))
+        {
             if let Some((file, line)) = place(path, room) {
                 found.push(Refusal::Need { file, line });
             }
@@ -75,7 +109,10 @@ fn function_head(line: &str) -> Option<&str> {
 
 /// The first and the last line of a function of a source file, or None where it has none of this name.
 pub fn function_lines(source: &str, name: &str) -> Option<(usize, usize)> {
-    let first = source.lines().position(|line| function_head(line) == Some(name))? + 1;
+    let first = source
+        .lines()
+        .position(|line| function_head(line) == Some(name))?
+        + 1;
     let length = source.lines().skip(first).position(|line| line == "}")?;
     Some((first, first + length + 1))
 }
@@ -85,7 +122,11 @@ pub fn functions_with<'a>(source: &'a str, text: &str) -> Vec<&'a str> {
     let names = source.lines().filter_map(function_head);
     let has = |name: &&str| {
         let (first, last) = function_lines(source, name).unwrap_or((1, 0));
-        source.lines().take(last).skip(first - 1).any(|line| line.contains(text))
+        source
+            .lines()
+            .take(last)
+            .skip(first - 1)
+            .any(|line| line.contains(text))
     };
     names.filter(has).collect()
 }
@@ -101,35 +142,64 @@ pub struct Function {
 pub fn function(room: &Path, name: &str) -> Option<Function> {
     let mut path: Vec<&str> = name.split("::").collect();
     let last = path.pop()?;
-    let sources = if path.is_empty() { vec!["src/lib.rt".into(), "src/main.rt".into()] } else { vec![format!("src/{}.rt", path.join("/"))] };
+    let sources = if path.is_empty() {
+        vec!["src/lib.rt".into(), "src/main.rt".into()]
+    } else {
+        vec![format!("src/{}.rt", path.join("/"))]
+    };
     let (source, lines) = sources.into_iter().find_map(|file| {
         let text = std::fs::read_to_string(room.join(&file)).ok()?;
         Some((file, function_lines(&text, last)?))
     })?;
     let folder: String = path.iter().map(|part| format!("{part}/")).collect();
     // a function that calls itself has `+` before its name
-    let proof = ["", "+"].map(|mark| format!("proofs/{folder}{mark}{last}/Proof.antt")).into_iter().find(|file| room.join(file).is_file());
-    Some(Function { source, lines, proof })
+    let proof = ["", "+"]
+        .map(|mark| format!("proofs/{folder}{mark}{last}/Proof.antt"))
+        .into_iter()
+        .find(|file| room.join(file).is_file());
+    Some(Function {
+        source,
+        lines,
+        proof,
+    })
 }
 
 /// Whether this function was refused by an error of its own.
 pub fn function_refused(function: &Function, refusals: &[Refusal]) -> bool {
-    refusals.iter().any(|refusal| match (refusal, &function.proof) {
-        (Refusal::Declaration { file, why, .. }, Some(proof)) => file == proof && *why == Why::Own,
-        (Refusal::Need { file, line }, None) => *file == function.source && (function.lines.0..=function.lines.1).contains(line),
-        _ => false,
-    })
+    refusals
+        .iter()
+        .any(|refusal| match (refusal, &function.proof) {
+            (Refusal::Declaration { file, why, .. }, Some(proof)) => {
+                file == proof && *why == Why::Own
+            }
+            (Refusal::Need { file, line }, None) => {
+                *file == function.source && (function.lines.0..=function.lines.1).contains(line)
+            }
+            _ => false,
+        })
 }
 
 /// How often a name is declared in the files of proofs/ that are no function's own: a name that an edit gives must be one declaration's.
 pub fn declared(room: &Path, name: &str) -> usize {
-    let files = std::fs::read_dir(room.join("proofs")).into_iter().flatten().flatten().map(|entry| entry.path());
-    let texts = files.filter(|path| path.extension().is_some_and(|end| end == "antt")).filter_map(|path| std::fs::read_to_string(path).ok());
+    let files = std::fs::read_dir(room.join("proofs"))
+        .into_iter()
+        .flatten()
+        .flatten()
+        .map(|entry| entry.path());
+    let texts = files
+        .filter(|path| path.extension().is_some_and(|end| end == "antt"))
+        .filter_map(|path| std::fs::read_to_string(path).ok());
     let declares = |line: &&str| {
         let words = line.trim_start();
-        words.strip_prefix("pub ").unwrap_or(words).strip_prefix(name).is_some_and(|rest| rest.starts_with(" :"))
+        words
+            .strip_prefix("pub ")
+            .unwrap_or(words)
+            .strip_prefix(name)
+            .is_some_and(|rest| rest.starts_with(" :"))
     };
-    texts.map(|text| text.lines().filter(declares).count()).sum()
+    texts
+        .map(|text| text.lines().filter(declares).count())
+        .sum()
 }
 
 /// Why a declaration of a file of proofs/ that is no function's own was refused: by an error of its own, if it has one.
@@ -137,9 +207,16 @@ pub fn declaration_refused(name: &str, refusals: &[Refusal]) -> Option<Why> {
     let whys: Vec<Why> = refusals
         .iter()
         .filter_map(|refusal| match refusal {
-            Refusal::Declaration { file, name: declared, why } if declared == name && !file.ends_with("/Proof.antt") => Some(*why),
+            Refusal::Declaration {
+                file,
+                name: declared,
+                why,
+            } if declared == name && !file.ends_with("/Proof.antt") => Some(*why),
             _ => None,
         })
         .collect();
-    whys.iter().copied().find(|why| *why == Why::Own).or(whys.first().copied())
+    whys.iter()
+        .copied()
+        .find(|why| *why == Why::Own)
+        .or(whys.first().copied())
 }

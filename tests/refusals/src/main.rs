@@ -13,7 +13,9 @@ fn failed(lines: &[String]) -> ExitCode {
 }
 
 fn main() -> ExitCode {
-    let root = std::env::current_dir().and_then(|here| here.canonicalize()).unwrap_or_default();
+    let root = std::env::current_dir()
+        .and_then(|here| here.canonicalize())
+        .unwrap_or_default();
     let all = match edits(&root) {
         Ok(all) => all,
         Err(lines) => return failed(&lines),
@@ -22,7 +24,10 @@ fn main() -> ExitCode {
         Some("table") => print!("{}", table(&all)),
         Some("logs") => {
             let logs = root.join("target").join("must-fail");
-            let lines: Vec<String> = all.iter().flat_map(|edit| faults(edit, &logs.join(&edit.crate_name).join(&edit.label))).collect();
+            let lines: Vec<String> = all
+                .iter()
+                .flat_map(|edit| faults(edit, &logs.join(&edit.crate_name).join(&edit.label)))
+                .collect();
             if !lines.is_empty() {
                 return failed(&lines);
             }
