@@ -3,12 +3,12 @@
 use Prim.Native.Nat.{ℕ, _/_, _%_}
 use native.Mathlib.Omega.{arith}
 use mathlib.Core.Path.{_≡_, refl, sym, ap, ap₂, subst, _∙_}
-use mathlib.Core.Bool.{Bool, true, false, cond, not, _||_}
+use mathlib.Core.Bool.{Bool, true, false, cond, not}
 use mathlib.Core.List.{List, [], _∷_}
 use lib.Dec.{eqb}
 use Rattle.line_rules.specs.declared.Heard.{Heard}
 use Rattle.line_rules.specs.declared.Heard.the-variants.{Nothing, Character}
-use Rattle.line_rules.specs.Sending.{bit, on}
+use Rattle.line_rules.specs.Sending.{on}
 use Rattle.link_rules.specs.declared.Sent.{Sent}
 use Rattle.link_rules.specs.declared.Received.{Received}
 use Rattle.link_rules.specs.Parts.{idleReceiver}
@@ -16,7 +16,7 @@ use Rattle.link_rules.specs.Transmitting as link-transmitting
 use Rattle.link_rules.specs.Hearing.{arrives}
 use Rattle.link_rules.specs.Hearing as link-hearing
 use Rattle.line_rules.proofs.Bits.{on-bit}
-use Rattle.line_rules.proofs.Choice.{either, all}
+use Rattle.line_rules.proofs.Choice.{either, all, neither}
 use Rattle.ins2651_rules.specs.declared.Flags.{Flags}
 use Rattle.ins2651_rules.specs.declared.Device.{Device}
 use Rattle.ins2651_rules.specs.Shape.{resetDevice, withRegisters, withPins, pinLevels, withModes, withCommand, withChange}
@@ -121,10 +121,6 @@ pub record SideTicked (s : Settings) (d : Device) (x : Bool) : Type 0 where
   pub ready : Ready s (receiveTick (transmitTick d .device) x)
   pub sender : receiveTick (transmitTick d .device) x .sender ≡ link-transmitting.transmit (d .sender) true false (sends s) .half
   pub receiver : receiveTick (transmitTick d .device) x .receiver ≡ link-hearing.receive (d .receiver) true (receives s) x .half
-
-neither : (a b : Bool) → (a || b) ≡ false → (a ≡ false) × (b ≡ false)
-neither true b e = absurd (omega (arith, ap bit e))
-neither false b e = (refl, e)
 
 -- an arrival with no fault, into a register that was read, sets no flag
 noted-same : (f : Flags) (o : Bool) (h : Heard) → o ≡ false → arrives faulty h ≡ false → SameErrors f (noted f o h)

@@ -1,7 +1,7 @@
 -- Laws of choices and of several tests together.
 -- Assumes nothing.
 use mathlib.Core.Path.{_≡_, refl, sym}
-use mathlib.Core.Bool.{Bool, true, false, cond, not, _&&_}
+use mathlib.Core.Bool.{Bool, true, false, cond, not, _&&_, _||_, true≢false}
 
 -- what holds of both cases of a choice holds of the choice
 pub either : {X : Type 0} (P : X → Type 0) (t : Bool) {x y : X} → P x → P y → P (cond t x y)
@@ -19,3 +19,7 @@ all p q = rw (p, q)
 pub not-so : (b : Bool) → not b ≡ true → b ≡ false
 not-so true e = sym e
 not-so false e = refl
+
+pub neither : (a b : Bool) → (a || b) ≡ false → (a ≡ false) × (b ≡ false)
+neither true b e = absurd (true≢false e)
+neither false b e = (refl, e)
