@@ -1,16 +1,23 @@
 -- Bytes that are taken in parts: what is left of a piece, and the session that has taken one part more.
 -- Assumes nothing.
-use Prim.Native.Nat.{ℕ, _+_, _-_, _≤_}
+use Prim.Native.Nat.{ℕ, _+_, _-_, _≤_, _<_}
+use Prim.Native.Char.{code}
 use native.Mathlib.Omega.{arith}
-use mathlib.Core.Path.{_≡_, sym, ap, _∙_}
-use mathlib.Core.List.{List, _++_}
-use lib.ListN.{length, take, drop, length-drop}
-use lib.Seq.{length-take-le, take-take, take-add}
+use mathlib.Core.Path.{_≡_, refl, sym, ap, _∙_}
+use mathlib.Core.Bool.{Bool, true, false, true≢false}
+use mathlib.Core.List.{List, [], _∷_, _++_}
+use borrow.Author.Tests.{lt-ltb, le-ltb}
+use lib.Dec.{ltb}
+use lib.ListN.{length, take, drop, length-drop, take-append-drop}
+use lib.Seq.{length-take-le, take-all, take-take, take-add}
+use Rattle.line_rules.proofs.Choice.{each, either}
+use Rattle.line_rules.proofs.Table.{both}
 use Rattle.session_rules.specs.declared.Session.{Session}
-use Rattle.session_rules.specs.Bytes.{afterAll}
+use Rattle.session_rules.specs.Bytes.{goesOn, after, afterAll, taken}
+use Rattle.session_rules.proofs.Cutting.{stopped-after}
 use Rattle.session_rules.proofs.Feeding.{after-append}
 use Rattle.run_session.specs.declared.Went.{Went}
-use Rattle.run_session.specs.Goes.{Answered, Fed}
+use Rattle.run_session.specs.Goes.{TookAll, staysUnread, Answered, Fed}
 
 -- `&piece[from..]`
 abbrev pub left : List ℕ → ℕ → List ℕ
@@ -29,14 +36,102 @@ module _ (piece : List ℕ) (from : ℕ) (h : from ≤ length piece) where
       ∙ sym (after-append s (take from piece) (take used (drop from piece)))
       ∙ ap (λ (l : List ℕ). afterAll s l) (sym (take-add from used piece))
 
--- a session that has answered some bytes has taken them
-pub fed : {s : Session} {bytes : List ℕ} {w : Went} → Answered s bytes w → Fed s (w .session)
-fed {bytes = bytes} a = record { bytes = bytes; session = a .session }
+  -- the piece is what stands before and what is left
+  pub parted : take from piece ++ left piece from ≡ piece
+  parted =
+      ap (λ (l : List ℕ). take from piece ++ l) (take-all (length piece - from) (drop from piece) (omega (arith, length-drop from piece))) ∙ take-append-drop from piece
 
--- and what it takes after them it has taken with them
-pub then : {s t u : Session} → Fed s t → Fed t u → Fed s u
-then {s} a b =
+-- one byte finds room
+pub newline-fed : (s : Session) {room used : ℕ} → 32 ≤ room → used ≡ taken s (code "\n" ∷ []) room → afterAll s (take used (code "\n" ∷ [])) ≡ after s (code "\n")
+newline-fed s {room} h e = rw (e, le-ltb room 32 h)
+
+-- == the rest stays unread ==
+
+-- where lines are still taken, none of the bytes stayed unread
+pub none-unread : (s : Session) (bs : List ℕ) → goesOn (afterAll s bs) ≡ true → staysUnread s bs ≡ false
+none-unread s [] e = refl
+none-unread s (b ∷ bs) e =
+    each (λ (u : Bool). u ≡ false) (goesOn s) (λ f. none-unread (after s b) bs e) (λ f. absurd (true≢false (sym e ∙ ap (λ (t : Session). goesOn t) (stopped-after s f (b ∷ bs)) ∙ f)))
+
+-- behind bytes of which none did it is a matter of the others
+pub unread-behind : (s : Session) (a b : List ℕ) → staysUnread s a ≡ false → staysUnread s (a ++ b) ≡ staysUnread (afterAll s a) b
+unread-behind s [] b e = refl
+unread-behind s (x ∷ a) b e =
+    each (λ (u : Bool). u ≡ staysUnread (afterAll (after s x) a) b) (goesOn s) (λ f. unread-behind (after s x) a b (rw f at e)) (λ f. absurd (true≢false (rw f at e)))
+
+-- behind the last line that is taken every byte does
+pub all-unread : (s : Session) (a b : List ℕ) → goesOn (afterAll s a) ≡ false → 0 < length b → staysUnread s (a ++ b) ≡ true
+all-unread s [] [] e any = absurd (omega (arith, any))
+all-unread s [] (y ∷ b) e any = rw e
+all-unread s (x ∷ a) b e any = either (λ (u : Bool). u ≡ true) (goesOn s) (all-unread (after s x) a b e any) refl
+
+-- a byte that comes while lines are taken does not
+pub not-unread : (s : Session) (bytes : List ℕ) → length bytes ≡ 1 → goesOn s ≡ true → staysUnread s bytes ≡ false
+not-unread s [] e on = absurd (omega (arith, e))
+not-unread s (b ∷ []) e on = rw on
+not-unread s (b ∷ c ∷ bs) e on = absurd (omega (arith, e))
+
+-- no bytes are the input's end
+pub ended : (s : Session) (bytes : List ℕ) → length bytes ≡ 0 → Answered s bytes (record { session = s; more = false; rest = false; failed = false })
+ended s [] e = record { session = refl; more = refl; rest = refl }
+ended s (b ∷ bs) e = absurd (omega (arith, e))
+
+-- a piece of which all but the last byte is fed, and then, if lines are still taken, that byte
+module _ (s : Session) (piece : List ℕ) (last : ℕ) (h : last + 1 ≡ length piece) {w : Went} (t : TookAll s (take last piece) w) where
+  one-left : length (left piece last) ≡ 1
+  one-left = omega (arith, left-length piece last (omega (arith, h)), h)
+
+  whole-piece : take last piece ++ left piece last ≡ piece
+  whole-piece = parted piece last (omega (arith, h))
+
+  both-fed : afterAll (w .session) (left piece last) ≡ afterAll s piece
+  both-fed =
+      ap (λ (u : Session). afterAll u (left piece last)) (t .session) ∙ sym (after-append s (take last piece) (left piece last))
+      ∙ ap (λ (l : List ℕ). afterAll s l) whole-piece
+
+  pub rest-fed : w .more ≡ true → {v : Went} → TookAll (w .session) (left piece last) v → Answered s piece v
+  rest-fed m {v} u =
+      let on : goesOn (w .session) ≡ true = sym (t .more) ∙ m in
+      let before : staysUnread s (take last piece) ≡ false = none-unread s (take last piece) (ap (λ (u : Session). goesOn u) (sym (t .session)) ∙ on) in
+      record {
+        session = u .session ∙ both-fed;
+        more = rw (lt-ltb 0 (length piece) (omega (arith, h))) (u .more);
+        rest =
+            u .rest
+            ∙ sym (ap (λ (l : List ℕ). staysUnread s l) (sym whole-piece) ∙ unread-behind s (take last piece) (left piece last) before
+            ∙ ap (λ (u : Session). staysUnread u (left piece last)) (sym (t .session)) ∙ not-unread (w .session) (left piece last) one-left on);
+      }
+
+  pub rest-unread : w .more ≡ false → Answered s piece (record { session = w .session; more = false; rest = true; failed = false })
+  rest-unread m =
+      let off : goesOn (w .session) ≡ false = sym (t .more) ∙ m in
+      record {
+        session = sym (stopped-after (w .session) off (left piece last)) ∙ both-fed;
+        more = rw (lt-ltb 0 (length piece) (omega (arith, h))) (sym off);
+        rest =
+            sym (ap (λ (l : List ℕ). staysUnread s l) (sym whole-piece)
+            ∙ all-unread s (take last piece) (left piece last) (ap (λ (u : Session). goesOn u) (sym (t .session)) ∙ off) (omega (arith, one-left)));
+      }
+
+-- == one read after another ==
+
+pub fed : {s : Session} {bytes : List ℕ} {w : Went} → Answered s bytes w → Fed s w
+fed {s} {bytes} {w} a =
+    record {
+      bytes = bytes;
+      session = a .session;
+      rest = a .rest;
+      more = λ m. a .rest ∙ none-unread s bytes (ap (λ (u : Session). goesOn u) (sym (a .session)) ∙ both (ltb 0 (length bytes)) (goesOn (w .session)) (sym (a .more) ∙ m) .1);
+    }
+
+-- what is taken after the bytes of a read is taken with them, where more was wanted
+pub then : {s : Session} {w v : Went} → Fed s w → w .more ≡ true → Fed (w .session) v → Fed s v
+then {s} a m b =
     record {
       bytes = a .bytes ++ b .bytes;
       session = b .session ∙ ap (λ (t : Session). afterAll t (b .bytes)) (a .session) ∙ sym (after-append s (a .bytes) (b .bytes));
+      rest =
+          b .rest ∙ ap (λ (t : Session). staysUnread t (b .bytes)) (a .session)
+          ∙ sym (unread-behind s (a .bytes) (b .bytes) (sym (a .rest) ∙ a .more m));
+      more = b .more;
     }

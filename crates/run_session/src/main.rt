@@ -6,16 +6,18 @@ ghost use mathlib.Core.Bool.{true, false};
 ghost use lib.ListN.{length, take};
 ghost use Rattle.io.specs.Counts.{clamped};
 ghost use Rattle.rows.specs.Text.{Spoke};
-ghost use Rattle.run_session.specs.Goes.{TookSome, Answered, Fed, lastOf};
+ghost use Rattle.run_session.specs.Goes.{TookSome, TookAll, Answered, Fed, lastOf, refusedOf};
 use libc::STDERR_FILENO;
 use libc::STDIN_FILENO;
 use libc::STDOUT_FILENO;
 use session_rules::Session;
 
-// The session so far: whether more of the input is wanted, and whether reading or writing failed.
+// The session so far: whether more of the input is wanted, whether the rest stays unread (document 01, "The session text"), and
+// whether reading or writing failed.
 struct Went {
     session: Session,
     more: bool,
+    rest: bool,
     failed: bool,
 }
 
@@ -32,6 +34,7 @@ fn failed(s: Session) -> Went
     Went {
         session: s,
         more: false,
+        rest: false,
         failed: true,
     }
 }
@@ -68,10 +71,10 @@ fn feed(s: Session, piece: &[u8]) -> Took
     }
 }
 
-// Answers a piece of the input; its text may need several buffers. No byte is the input's end; after the last line that is
-// taken no more is read, so that an endless input ends too.
-fn answered(s: Session, piece: &[u8]) -> Went
-    ensures { λ r. ⌜ (r .failed ≡ false → Answered s (now (piece .entry)) r) ⌝ }
+// Feeds all of a piece; its text may need several buffers. After the last line that is taken no more is wanted, so that an
+// endless input ends too.
+fn feed_all(s: Session, piece: &[u8]) -> Went
+    ensures { λ r. ⌜ (r .failed ≡ false → TookAll s (now (piece .entry)) r) ⌝ }
 {
     let mut session = s;
     let mut from = 0;
@@ -86,7 +89,38 @@ fn answered(s: Session, piece: &[u8]) -> Went
     }
     Went {
         session,
-        more: (0 < piece.len()) & (session.lines < 65535),
+        more: session.lines < 65535,
+        rest: false,
+        failed: false,
+    }
+}
+
+// Answers a piece of the input; no byte is the input's end. The last byte of a piece is fed by itself: where no line is taken
+// any more when it comes, the rest stays unread.
+fn answered(s: Session, piece: &[u8]) -> Went
+    ensures { λ r. ⌜ (r .failed ≡ false → Answered s (now (piece .entry)) r) ⌝ }
+{
+    if piece.len() == 0 {
+        return Went {
+            session: s,
+            more: false,
+            rest: false,
+            failed: false,
+        };
+    }
+    let last = piece.len() - 1;
+    let start = feed_all(s, &piece[..last]);
+    if start.failed {
+        return start;
+    }
+    let before = start.session;
+    if start.more {
+        return feed_all(before, &piece[last..]);
+    }
+    Went {
+        session: before,
+        more: false,
+        rest: true,
         failed: false,
     }
 }
@@ -103,7 +137,7 @@ fn after_read(s: Session, got: isize, buf: &[u8]) -> Went
 }
 
 fn read(s: Session) -> Went
-    ensures { λ r. ⌜ (r .failed ≡ false → Fed s (r .session)) ⌝ }
+    ensures { λ r. ⌜ (r .failed ≡ false → Fed s r) ⌝ }
 {
     let mut buf = io::large_buffer();
     let got = libc::read(STDIN_FILENO, &mut buf);
@@ -112,11 +146,12 @@ fn read(s: Session) -> Went
 
 // A proved loop has to end, so this one counts its reads down, from a number that no run uses up.
 fn whole(s: Session) -> Went
-    ensures { λ r. ⌜ (r .failed ≡ false → Fed s (r .session)) ⌝ }
+    ensures { λ r. ⌜ (r .failed ≡ false → Fed s r) ⌝ }
 {
     let mut w = Went {
         session: s,
         more: true,
+        rest: false,
         failed: false,
     };
     let mut reads = u64::MAX;
@@ -140,9 +175,41 @@ fn ending(w: Went, out: &mut [u8; 64]) -> usize
     session::finish(w.session, out)
 }
 
+// How many lines were refused, the last one too where it lacks its newline.
+fn refused(s: Session) -> u16
+    ensures { λ r. ⌜ r ≡ refusedOf s ⌝ }
+{
+    if 0 < s.length {
+        let mut out = io::buffer();
+        let t = session::feed(s, b"\n", &mut out);
+        let ended = t.session;
+        return ended.refusals;
+    }
+    s.refusals
+}
+
+// Words on standard error where the whole input was answered and written: they are no part of the output.
+fn tell(rest: bool, refusals: u16) {
+    if rest {
+        io::write_all(
+            STDERR_FILENO,
+            b"session: lines after the 65,535th stayed unread\n",
+        );
+    }
+    if 0 < refusals {
+        io::write_all(STDERR_FILENO, b"session: lines refused: ");
+        io::print_decimal(STDERR_FILENO, refusals as u64);
+        io::write_all(STDERR_FILENO, b"\n");
+    }
+}
+
 fn main() {
     let w = whole(session::begin());
     let mut out = [0u8; 64];
     let n = ending(w, &mut out);
-    io::write_all(STDOUT_FILENO, &out[..n]);
+    if !io::write_all(STDOUT_FILENO, &out[..n]) {
+        unwritten(w.session);
+    } else if !w.failed {
+        tell(w.rest, refused(w.session));
+    }
 }
