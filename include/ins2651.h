@@ -1,5 +1,12 @@
 /* The proved INS2651 for C: crates/host says what each call does, for any bytes in the device lent to it.
- * Link with target/staticlib/libhost.a, which `rt staticlib host` proves and writes (x86-64). docs/USING.md, "From C", has an example. */
+ * `tools/cc FILE.c` builds a program with it; docs/USING.md, "From C", has an example.
+ *
+ * - No global state: a call reads and changes the device lent to it, and nothing else.
+ * - One device may be used by one thread at a time.
+ * - The archive, target/staticlib/libhost.a, has no undefined symbols: it needs no other code, not even a C library. It is x86-64 code,
+ *   which `rt staticlib host` proves and writes.
+ * - Arguments are bytes. C cuts a larger number to its low eight bits before the call, so 256 arrives as 0 and is not refused;
+ *   -Wconversion shows such a place. */
 #ifndef INS2651_H
 #define INS2651_H
 
@@ -28,7 +35,60 @@ enum {
     INS2651_NOT_NORMAL_OPERATION = 5  /* a command with bit 6 or 7 set */
 };
 
-/* The bits of what ins2651_outputs answers; 1 is a high level, and each output is active low. */
+/* The bits of the status register. The three error flags stay until reset error or reset. */
+enum {
+    INS2651_STATUS_TXRDY = 1,     /* the sender may be written */
+    INS2651_STATUS_RXRDY = 2,     /* a character is unread */
+    INS2651_STATUS_TXEMT = 4,     /* the sender ran empty, or DSR or DCD changed */
+    INS2651_STATUS_PARITY = 8,    /* error flag: wrong parity */
+    INS2651_STATUS_OVERRUN = 16,  /* error flag: a character was replaced unread */
+    INS2651_STATUS_FRAMING = 32,  /* error flag: a stop bit of 0 */
+    INS2651_STATUS_DCD = 64,      /* DCD is low */
+    INS2651_STATUS_DSR = 128      /* DSR is low */
+};
+
+/* The bits of the command register. */
+enum {
+    INS2651_COMMAND_TRANSMIT = 1,      /* transmit enable */
+    INS2651_COMMAND_DTR = 2,           /* makes the output DTR low */
+    INS2651_COMMAND_RECEIVE = 4,       /* receive enable */
+    INS2651_COMMAND_BREAK = 8,         /* sends 0 while no frame is under way */
+    INS2651_COMMAND_RESET_ERROR = 16,  /* clears the error flags at the write, and reads back as 0 */
+    INS2651_COMMAND_RTS = 32           /* makes the output RTS low */
+};
+
+/* The parts of mode 1, for INS2651_MODE1. */
+enum {
+    INS2651_PARITY_NONE = 0,
+    INS2651_PARITY_ODD = 16,
+    INS2651_PARITY_EVEN = 48,
+    INS2651_STOP_1 = 64,
+    INS2651_STOP_1_HALF = 128,  /* one and a half; with one tick a bit it is one tick */
+    INS2651_STOP_2 = 192
+};
+
+/* The byte of mode 1: 5 to 8 data bits, one of the parities and one of the stop lengths above, and 1, 16 or 64 ticks a bit. It is a
+ * constant where its arguments are. Any other argument makes it 0, which the chip refuses (INS2651_SYNCHRONOUS). Give it no
+ * argument that must be evaluated only once. */
+#define INS2651_MODE1(length, parity, stop, factor) \
+    INS2651_MODE1_BYTE((int)(length), (int)(parity), (int)(stop), (int)(factor))
+#define INS2651_MODE1_BYTE(n, p, s, f) \
+    ((uint8_t)(n >= 5 && n <= 8 && \
+               (p == INS2651_PARITY_NONE || p == INS2651_PARITY_ODD || p == INS2651_PARITY_EVEN) && \
+               (s == INS2651_STOP_1 || s == INS2651_STOP_1_HALF || s == INS2651_STOP_2) && \
+               (f == 1 || f == 16 || f == 64) \
+                   ? (n - 5) * 4 + p + s + (f == 1 ? 1 : f == 16 ? 2 : 3) \
+                   : 0))
+
+/* The parts of mode 2. An internal clock makes that direction's factor 16. */
+enum {
+    INS2651_MODE2_RATE = 15,  /* the mask of the rate */
+    INS2651_MODE2_RECEIVE_INTERNAL = 16,
+    INS2651_MODE2_TRANSMIT_INTERNAL = 32
+};
+
+/* The bits of what ins2651_outputs answers; 1 is a high level, and each output is active low. They are not status bits: the output
+ * INS2651_TXRDY is 0 where INS2651_STATUS_TXRDY is 1. */
 enum {
     INS2651_TXRDY = 1,
     INS2651_RXRDY = 2,
@@ -42,7 +102,7 @@ enum {
 #define INS2651_VALUE(answer) ((uint8_t)((answer) & 255))
 
 /* The registers; `accepted` is 1 once a mode 1 was accepted, `modes` and `syns` are the two pointers. */
-typedef struct {
+typedef struct ins2651_registers {
     uint8_t mode1;
     uint8_t mode2;
     uint8_t accepted;
@@ -55,14 +115,14 @@ typedef struct {
 } ins2651_registers;
 
 /* The levels of the three modem inputs. */
-typedef struct {
+typedef struct ins2651_input_pins {
     uint8_t dsr;
     uint8_t dcd;
     uint8_t cts;
 } ins2651_input_pins;
 
 /* How a character is sent: ticks a bit, data bits, parity or none, even or odd, stop ticks. All 0: no character is under way. */
-typedef struct {
+typedef struct ins2651_format {
     uint8_t factor;
     uint8_t length;
     uint8_t parity;
@@ -71,14 +131,14 @@ typedef struct {
 } ins2651_format;
 
 /* The frame being sent; `place` is that of its next tick. */
-typedef struct {
+typedef struct ins2651_frame {
     uint8_t character;
     ins2651_format format;
     uint16_t place;
 } ins2651_frame;
 
 /* The sender: its frame, the character that waits (where `full` is 1), the guard that a break left. */
-typedef struct {
+typedef struct ins2651_sender {
     ins2651_frame frame;
     uint8_t holding;
     uint8_t full;
@@ -86,7 +146,7 @@ typedef struct {
 } ins2651_sender;
 
 /* Where the receiver stands between two samples. */
-typedef struct {
+typedef struct ins2651_sampling {
     uint8_t phase;
     uint8_t countdown;
     uint8_t value;
@@ -95,7 +155,7 @@ typedef struct {
 } ins2651_sampling;
 
 /* The receiver: where it stands, the format of the character under way, the character last held, unread or not. */
-typedef struct {
+typedef struct ins2651_receiver {
     ins2651_sampling state;
     ins2651_format format;
     uint8_t holding;
@@ -103,7 +163,7 @@ typedef struct {
 } ins2651_receiver;
 
 /* The three error flags, the empty-mark and the change-mark. */
-typedef struct {
+typedef struct ins2651_flags {
     uint8_t framing;
     uint8_t overrun;
     uint8_t parity;
@@ -111,14 +171,23 @@ typedef struct {
     uint8_t change;
 } ins2651_flags;
 
-/* A device: any bytes will do. One that is out of range (docs/RANGES.md) is taken as one just reset. */
-typedef struct {
+/* A device: any bytes will do. One that is out of range (docs/RANGES.md) is taken as one just reset. One of zeros (static storage,
+ * memset, {0}) is in range and is not a reset one: its pins are low. Begin with INS2651_RESET or ins2651_reset. */
+typedef struct ins2651 {
     ins2651_registers registers;
     ins2651_input_pins pins;
     ins2651_sender sender;
     ins2651_receiver receiver;
     ins2651_flags flags;
 } ins2651;
+
+/* The initialiser of a device just reset: its inputs are high, all else is 0. */
+#define INS2651_RESET \
+    { {0, 0, 0, 0, 0, 0, 0, 0, 0},              /* registers */ \
+      {1, 1, 1},                                /* pins */ \
+      {{0, {0, 0, 0, 0, 0}, 0}, 0, 0, 0},       /* sender */ \
+      {{0, 0, 0, 0, 0}, {0, 0, 0, 0, 0}, 0, 0}, /* receiver */ \
+      {0, 0, 0, 0, 0} }                         /* flags */
 
 /* The layout is the archive's. Bytes 23, 37 and 43 are padding: no call reads it and none keeps it, so compare devices
  * field by field and not by their bytes. */

@@ -1,4 +1,5 @@
-/* Drives one device from text: a call on each line of standard input, its answer on a line of standard output.
+/* Drives one device from text: a call on each line of standard input, its answer on a line of standard output. A line is answered
+ * when it is entered, so another program can drive it through two pipes.
  *
  *     reset                 0
  *     read ADDRESS          REFUSAL VALUE
@@ -7,17 +8,18 @@
  *     transmit              LEVEL
  *     receive LEVEL         REFUSAL
  *     outputs               TXRDY RXRDY TXEMT DTR RTS
- *     device HEX            0       the device's 44 bytes are set, by 88 hexadecimal digits
+ *     device HEX            0       the device's 44 bytes are set, by exactly 88 digits 0-9, a-f
  *     bytes                 HEX     the device's 44 bytes, its padding as 00
  *
- * Numbers are decimal, 0 to 255. The device begins as one just reset. A line of another form ends the program with status 2. */
+ * Numbers are decimal, 0 to 255. The device begins as one just reset. A line of another form, or of more than 126 bytes, ends the
+ * program with status 2, and so do an input that cannot be read and an answer that cannot be written. */
 #include <stdio.h>
 #include <stdlib.h>
 #include <string.h>
 
 #include "ins2651.h"
 
-static ins2651 device;
+static ins2651 device = INS2651_RESET;
 
 /* A call's name and its numbers; 0 where it is none. */
 static int is(const char *line, const char *name, unsigned count, uint8_t *numbers) {
@@ -32,7 +34,7 @@ static int is(const char *line, const char *name, unsigned count, uint8_t *numbe
         numbers[i] = (uint8_t)number;
         rest = end;
     }
-    return strcmp(rest, "\n") == 0 || *rest == '\0';
+    return *rest == '\0';
 }
 
 static int digit(char c) {
@@ -49,6 +51,7 @@ static int set_bytes(const char *hex) {
         if (low < 0) return 0;
         bytes[i] = (unsigned char)(16 * high + low);
     }
+    if (hex[2 * sizeof bytes] != '\0') return 0;
     memcpy(&device, bytes, sizeof device);
     return 1;
 }
@@ -86,14 +89,22 @@ static int does(const char *line) {
     return 1;
 }
 
+/* Cuts the newline off a line that fgets read; 0 where there is none, as the line goes on or has a NUL. */
+static int cut_newline(char *line) {
+    size_t length = strcspn(line, "\n");
+    if (line[length] == '\0') return feof(stdin) != 0; /* the last line may lack its newline */
+    line[length] = '\0';
+    return 1;
+}
+
 int main(void) {
     char line[128];
-    ins2651_reset(&device);
     while (fgets(line, sizeof line, stdin)) {
-        if (!does(line)) {
-            fprintf(stderr, "driver: no call: %s", line);
+        if (!cut_newline(line) || !does(line)) {
+            fprintf(stderr, "driver: no call: %s\n", line);
             return 2;
         }
+        if (fflush(stdout) != 0) return 2;
     }
-    return fflush(stdout) == 0 ? 0 : 2;
+    return ferror(stdin) ? 2 : 0;
 }

@@ -4,16 +4,16 @@
 #include "ins2651.h"
 
 int main(void) {
-    ins2651 chip;
-    ins2651_reset(&chip);
-    ins2651_write(&chip, INS2651_MODE, 206);    /* mode 1: 8 bits, no parity, 2 stop bits, 16 ticks a bit */
-    ins2651_write(&chip, INS2651_MODE, 48);     /* mode 2: both clocks internal */
-    ins2651_write(&chip, INS2651_COMMAND, 39);  /* transmit, receive, DTR, RTS */
-    ins2651_pins(&chip, 0, 0, 0);               /* DSR, DCD and CTS low */
-    ins2651_receive(&chip, 1);                  /* the line at mark */
+    ins2651 chip = INS2651_RESET;
+    ins2651_write(&chip, INS2651_MODE, INS2651_MODE1(8, INS2651_PARITY_NONE, INS2651_STOP_2, 16)); /* mode 1 is 206 */
+    ins2651_write(&chip, INS2651_MODE, INS2651_MODE2_TRANSMIT_INTERNAL | INS2651_MODE2_RECEIVE_INTERNAL);
+    ins2651_write(&chip, INS2651_COMMAND,
+                  INS2651_COMMAND_TRANSMIT | INS2651_COMMAND_RECEIVE | INS2651_COMMAND_DTR | INS2651_COMMAND_RTS);
+    ins2651_pins(&chip, 0, 0, 0); /* DSR, DCD and CTS low */
+    ins2651_receive(&chip, 1);    /* the line at mark */
     ins2651_write(&chip, INS2651_DATA, 255);
     int ticks = 0;
-    while (!(ins2651_read(&chip, INS2651_STATUS) & 2)) { /* until a character is unread */
+    while (!(ins2651_read(&chip, INS2651_STATUS) & INS2651_STATUS_RXRDY)) { /* until a character is unread */
         ins2651_receive(&chip, (uint8_t)ins2651_transmit(&chip));
         ticks++;
     }

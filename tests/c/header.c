@@ -1,0 +1,238 @@
+/* What include/ins2651.h says, held to what the chip does. Each failure is printed and makes the status 1. It is C11 and C++17. */
+#include <stdio.h>
+#include <string.h>
+
+#include "ins2651.h"
+
+static int failures = 0;
+
+static void holds(int fact, const char *what) {
+    if (fact) return;
+    printf("header: %s\n", what);
+    failures++;
+}
+
+static int status(ins2651 *chip) { return INS2651_VALUE(ins2651_read(chip, INS2651_STATUS)); }
+
+/* A device with this mode 1 and command, and its pins low. Its change-mark is read away. */
+static ins2651 set_up(uint8_t mode1, uint8_t command) {
+    ins2651 chip = INS2651_RESET;
+    ins2651_write(&chip, INS2651_MODE, mode1);
+    ins2651_write(&chip, INS2651_COMMAND, command);
+    ins2651_pins(&chip, 0, 0, 0);
+    status(&chip);
+    return chip;
+}
+
+/* A receive tick for each digit. */
+static void hears(ins2651 *chip, const char *levels) {
+    for (; *levels; levels++) ins2651_receive(chip, *levels == '1');
+}
+
+/* == mode 1 == */
+
+static const int lengths[] = {5, 6, 7, 8};
+static const int parities[] = {INS2651_PARITY_NONE, INS2651_PARITY_ODD, INS2651_PARITY_EVEN};
+static const int stops[] = {INS2651_STOP_1, INS2651_STOP_1_HALF, INS2651_STOP_2};
+static const int factors[] = {1, 16, 64};
+
+enum { WORKED = INS2651_MODE1(8, INS2651_PARITY_NONE, INS2651_STOP_2, 16) }; /* a constant */
+
+static int stop_ticks(int stop, int factor) {
+    if (stop == INS2651_STOP_1) return factor;
+    return stop == INS2651_STOP_1_HALF ? 3 * factor / 2 : 2 * factor;
+}
+
+/* Whether the chip takes the byte, reads it back, and begins a frame with these parts. */
+static int is_read_as_made(int length, int parity, int stop, int factor) {
+    uint8_t mode1 = INS2651_MODE1(length, parity, stop, factor);
+    ins2651 chip = INS2651_RESET;
+    if (ins2651_write(&chip, INS2651_MODE, mode1) != INS2651_DONE) return 0;
+    chip = set_up(mode1, INS2651_COMMAND_TRANSMIT);
+    ins2651_write(&chip, INS2651_DATA, 0);
+    ins2651_transmit(&chip);
+    ins2651_read(&chip, INS2651_COMMAND); /* puts the mode pointer back to mode 1 */
+    const ins2651_format *format = &chip.sender.frame.format;
+    return ins2651_read(&chip, INS2651_MODE) == mode1 && format->length == length && format->factor == factor
+        && format->parity == (parity != INS2651_PARITY_NONE) && format->even == (parity == INS2651_PARITY_EVEN)
+        && format->stop == stop_ticks(stop, factor);
+}
+
+static void mode1_is_the_chips(void) {
+    int combinations = 0;
+    for (int l = 0; l < 4; l++)
+        for (int p = 0; p < 3; p++)
+            for (int s = 0; s < 3; s++)
+                for (int f = 0; f < 3; f++, combinations++)
+                    if (!is_read_as_made(lengths[l], parities[p], stops[s], factors[f])) {
+                        printf("header: INS2651_MODE1(%d, %d, %d, %d)\n", lengths[l], parities[p], stops[s], factors[f]);
+                        failures++;
+                    }
+    holds(combinations == 108, "the 108 combinations of mode 1");
+    holds(WORKED == 206, "document 01's 206");
+    holds(sizeof(INS2651_MODE1(8, INS2651_PARITY_NONE, INS2651_STOP_2, 16)) == 1, "INS2651_MODE1 is a byte");
+}
+
+static int is_one_of(int value, const int *all, int count) {
+    for (int i = 0; i < count; i++)
+        if (all[i] == value) return 1;
+    return 0;
+}
+
+/* A byte is refused exactly where its part was none. */
+static void refused_where(int wrong, uint8_t mode1, const char *part, int value) {
+    ins2651 chip = INS2651_RESET;
+    if (ins2651_write(&chip, INS2651_MODE, mode1) == (wrong ? INS2651_SYNCHRONOUS : INS2651_DONE)) return;
+    printf("header: INS2651_MODE1 with the %s %d\n", part, value);
+    failures++;
+}
+
+static void other_parts_are_refused(void) {
+    for (int v = -300; v <= 300; v++) {
+        refused_where(!is_one_of(v, lengths, 4), INS2651_MODE1(v, INS2651_PARITY_ODD, INS2651_STOP_1, 16), "length", v);
+        refused_where(!is_one_of(v, parities, 3), INS2651_MODE1(8, v, INS2651_STOP_1, 16), "parity", v);
+        refused_where(!is_one_of(v, stops, 3), INS2651_MODE1(8, INS2651_PARITY_ODD, v, 16), "stop length", v);
+        refused_where(!is_one_of(v, factors, 3), INS2651_MODE1(8, INS2651_PARITY_ODD, INS2651_STOP_1, v), "factor", v);
+    }
+}
+
+/* == the other names == */
+
+static void mode2_names(void) {
+    uint8_t mode1 = INS2651_MODE1(8, INS2651_PARITY_NONE, INS2651_STOP_1, 64);
+    ins2651 chip = set_up(mode1, INS2651_COMMAND_TRANSMIT | INS2651_COMMAND_RECEIVE);
+    ins2651 other = chip;
+    ins2651_write(&chip, INS2651_MODE, INS2651_MODE2_TRANSMIT_INTERNAL | 14);
+    ins2651_write(&other, INS2651_MODE, INS2651_MODE2_RECEIVE_INTERNAL);
+    ins2651_write(&chip, INS2651_DATA, 0);
+    ins2651_write(&other, INS2651_DATA, 0);
+    ins2651_transmit(&chip);
+    ins2651_transmit(&other);
+    hears(&chip, "10");
+    hears(&other, "10");
+    holds(chip.sender.frame.format.factor == 16 && chip.receiver.format.factor == 64, "INS2651_MODE2_TRANSMIT_INTERNAL");
+    holds(other.sender.frame.format.factor == 64 && other.receiver.format.factor == 16, "INS2651_MODE2_RECEIVE_INTERNAL");
+    ins2651_read(&chip, INS2651_MODE);
+    holds((ins2651_read(&chip, INS2651_MODE) & INS2651_MODE2_RATE) == 14, "INS2651_MODE2_RATE");
+}
+
+static void status_of_the_sender(void) {
+    ins2651 chip = set_up(INS2651_MODE1(5, INS2651_PARITY_NONE, INS2651_STOP_1, 1), INS2651_COMMAND_TRANSMIT);
+    int pins = INS2651_STATUS_DSR | INS2651_STATUS_DCD;
+    holds(status(&chip) == (pins | INS2651_STATUS_TXRDY), "INS2651_STATUS_TXRDY of a sender that may be written");
+    holds(!(ins2651_outputs(&chip) & INS2651_TXRDY), "the output INS2651_TXRDY is low where the status bit is 1");
+    ins2651_write(&chip, INS2651_DATA, 0);
+    holds(status(&chip) == pins, "INS2651_STATUS_TXRDY of a sender that is full");
+    for (int tick = 0; tick < 7; tick++) ins2651_transmit(&chip);
+    holds(status(&chip) == (pins | INS2651_STATUS_TXRDY | INS2651_STATUS_TXEMT), "INS2651_STATUS_TXEMT of a sender that ran empty");
+    holds(!(ins2651_outputs(&chip) & INS2651_TXEMT), "the output INS2651_TXEMT is low where the status bit is 1");
+}
+
+static void status_of_the_pins(void) {
+    ins2651 chip = INS2651_RESET;
+    ins2651_pins(&chip, 0, 1, 1);
+    holds(status(&chip) == (INS2651_STATUS_DSR | INS2651_STATUS_TXEMT), "INS2651_STATUS_DSR, and its change");
+    ins2651_pins(&chip, 1, 0, 1);
+    holds(status(&chip) == (INS2651_STATUS_DCD | INS2651_STATUS_TXEMT), "INS2651_STATUS_DCD, and its change");
+    holds(status(&chip) == INS2651_STATUS_DCD, "a status read clears the change");
+}
+
+/* Five bits, odd parity, a tick a bit: the mark, then 0, five data bits, the parity, the stop. */
+static void status_of_the_receiver(void) {
+    ins2651 chip = set_up(INS2651_MODE1(5, INS2651_PARITY_ODD, INS2651_STOP_1, 1), INS2651_COMMAND_RECEIVE);
+    int seen = INS2651_STATUS_DSR | INS2651_STATUS_DCD | INS2651_STATUS_RXRDY;
+    hears(&chip, "1" "01000001");
+    holds(status(&chip) == seen, "INS2651_STATUS_RXRDY of a good character");
+    holds(!(ins2651_outputs(&chip) & INS2651_RXRDY), "the output INS2651_RXRDY is low where the status bit is 1");
+    hears(&chip, "01000001");
+    holds(status(&chip) == (seen |= INS2651_STATUS_OVERRUN), "INS2651_STATUS_OVERRUN of a second one");
+    hears(&chip, "01000011");
+    holds(status(&chip) == (seen |= INS2651_STATUS_PARITY), "INS2651_STATUS_PARITY of a wrong parity");
+    hears(&chip, "01000000");
+    holds(status(&chip) == (seen |= INS2651_STATUS_FRAMING), "INS2651_STATUS_FRAMING of a stop of 0");
+    ins2651_write(&chip, INS2651_COMMAND, INS2651_COMMAND_RECEIVE | INS2651_COMMAND_RESET_ERROR);
+    holds(status(&chip) == (INS2651_STATUS_DSR | INS2651_STATUS_DCD | INS2651_STATUS_RXRDY), "INS2651_COMMAND_RESET_ERROR");
+    holds(ins2651_read(&chip, INS2651_COMMAND) == INS2651_COMMAND_RECEIVE, "INS2651_COMMAND_RESET_ERROR reads back as 0");
+    holds(INS2651_VALUE(ins2651_read(&chip, INS2651_DATA)) == 1, "the character received");
+}
+
+static void command_names(void) {
+    ins2651 chip = set_up(INS2651_MODE1(8, INS2651_PARITY_NONE, INS2651_STOP_1, 1), 0);
+    hears(&chip, "1" "0000000001");
+    holds(!(status(&chip) & INS2651_STATUS_RXRDY), "nothing is heard without INS2651_COMMAND_RECEIVE");
+    holds((ins2651_outputs(&chip) & (INS2651_DTR | INS2651_RTS)) == (INS2651_DTR | INS2651_RTS), "DTR and RTS of no command");
+    ins2651_write(&chip, INS2651_COMMAND, INS2651_COMMAND_DTR);
+    holds((ins2651_outputs(&chip) & (INS2651_DTR | INS2651_RTS)) == INS2651_RTS, "INS2651_COMMAND_DTR");
+    ins2651_write(&chip, INS2651_COMMAND, INS2651_COMMAND_RTS);
+    holds((ins2651_outputs(&chip) & (INS2651_DTR | INS2651_RTS)) == INS2651_DTR, "INS2651_COMMAND_RTS");
+    holds(ins2651_transmit(&chip) == 1, "a line at mark");
+    ins2651_write(&chip, INS2651_COMMAND, INS2651_COMMAND_TRANSMIT | INS2651_COMMAND_BREAK);
+    holds(ins2651_transmit(&chip) == 0, "INS2651_COMMAND_BREAK");
+}
+
+/* Whether the bits make up all, none of them twice: with what is tested above, each name is its bit and no other. */
+static int make_up(int all, const int *bits, int count) {
+    int sum = 0, joined = 0;
+    for (int i = 0; i < count; i++) {
+        sum += bits[i];
+        joined |= bits[i];
+    }
+    return sum == all && joined == all;
+}
+
+static void no_bit_has_two_names(void) {
+    const int commands[] = {INS2651_COMMAND_TRANSMIT, INS2651_COMMAND_DTR, INS2651_COMMAND_RECEIVE, INS2651_COMMAND_BREAK,
+                            INS2651_COMMAND_RESET_ERROR, INS2651_COMMAND_RTS};
+    const int outputs[] = {INS2651_TXRDY, INS2651_RXRDY, INS2651_TXEMT, INS2651_DTR, INS2651_RTS};
+    const int mode2[] = {INS2651_MODE2_RATE, INS2651_MODE2_RECEIVE_INTERNAL, INS2651_MODE2_TRANSMIT_INTERNAL};
+    holds(make_up(63, commands, 6), "the command bits");
+    holds(make_up(31, outputs, 5), "the outputs");
+    holds(make_up(63, mode2, 3), "the parts of mode 2");
+}
+
+static void refusal_names(void) {
+    ins2651 chip = INS2651_RESET;
+    uint16_t answer = ins2651_read(&chip, 4);
+    holds(INS2651_REFUSAL(answer) == INS2651_NO_SUCH_ADDRESS && INS2651_VALUE(answer) == 0, "INS2651_NO_SUCH_ADDRESS");
+    holds(ins2651_receive(&chip, 2) == INS2651_NO_SUCH_LEVEL, "INS2651_NO_SUCH_LEVEL");
+    holds(ins2651_write(&chip, INS2651_MODE, 1) == INS2651_NO_STOP_LENGTH, "INS2651_NO_STOP_LENGTH");
+    holds(ins2651_write(&chip, INS2651_MODE, INS2651_STOP_1) == INS2651_SYNCHRONOUS, "INS2651_SYNCHRONOUS");
+    holds(ins2651_write(&chip, INS2651_COMMAND, 64) == INS2651_NOT_NORMAL_OPERATION, "INS2651_NOT_NORMAL_OPERATION");
+}
+
+/* == a device's bytes == */
+
+/* Field by field: each byte but the padding, as the header has their places. */
+static int same(const ins2651 *a, const ins2651 *b) {
+    const unsigned char *x = (const unsigned char *)a;
+    const unsigned char *y = (const unsigned char *)b;
+    for (size_t i = 0; i < sizeof *a; i++)
+        if (i != 23 && i != 37 && i != 43 && x[i] != y[i]) return 0;
+    return 1;
+}
+
+static void beginnings(void) {
+    static struct ins2651 zeroed;
+    ins2651 begun = INS2651_RESET;
+    ins2651 chip;
+    memset(&chip, 0xAA, sizeof chip);
+    holds(!same(&chip, &begun) && !same(&zeroed, &begun), "devices that are not alike");
+    holds(status(&chip) == 0 && same(&chip, &begun), "a device out of range is taken as one just reset");
+    memset(&chip, 0xAA, sizeof chip);
+    holds(ins2651_reset(&chip) == INS2651_DONE && same(&chip, &begun), "INS2651_RESET is what ins2651_reset makes");
+    holds(status(&zeroed) == (INS2651_STATUS_DSR | INS2651_STATUS_DCD), "a device of zeros is in range, its pins low");
+}
+
+int main(void) {
+    mode1_is_the_chips();
+    other_parts_are_refused();
+    mode2_names();
+    status_of_the_sender();
+    status_of_the_pins();
+    status_of_the_receiver();
+    command_names();
+    no_bit_has_two_names();
+    refusal_names();
+    beginnings();
+    return failures != 0;
+}
