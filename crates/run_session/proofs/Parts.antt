@@ -1,10 +1,10 @@
--- Bytes that are taken in parts: what is left of a piece, and the session that has taken one part more.
+-- Bytes that are taken in parts: what is left of a piece, the session that has taken one part more, and what stays unread; and the counts at the end.
 -- Assumes nothing.
 use Prim.Native.Nat.{ℕ, _+_, _-_, _≤_, _<_}
 use Prim.Native.Char.{code}
 use native.Mathlib.Omega.{arith}
 use mathlib.Core.Path.{_≡_, refl, sym, ap, _∙_}
-use mathlib.Core.Bool.{Bool, true, false, true≢false}
+use mathlib.Core.Bool.{Bool, true, false, cond, true≢false}
 use mathlib.Core.List.{List, [], _∷_, _++_}
 use borrow.Author.Tests.{lt-ltb, le-ltb}
 use lib.Dec.{ltb}
@@ -12,12 +12,13 @@ use lib.ListN.{length, take, drop, length-drop, take-append-drop}
 use lib.Seq.{length-take-le, take-all, take-take, take-add}
 use Rattle.line_rules.proofs.Choice.{each, either}
 use Rattle.line_rules.proofs.Table.{both}
+use Rattle.rows.specs.Text.{countsText}
 use Rattle.session_rules.specs.declared.Session.{Session}
-use Rattle.session_rules.specs.Bytes.{goesOn, after, afterAll, taken}
+use Rattle.session_rules.specs.Bytes.{goesOn, after, said, afterAll, taken, lastSaid}
 use Rattle.session_rules.proofs.Cutting.{stopped-after}
 use Rattle.session_rules.proofs.Feeding.{after-append}
 use Rattle.run_session.specs.declared.Went.{Went}
-use Rattle.run_session.specs.Goes.{TookAll, staysUnread, Answered, Fed}
+use Rattle.run_session.specs.Goes.{TookAll, staysUnread, Answered, Fed, closed, refusedOf}
 
 -- `&piece[from..]`
 abbrev pub left : List ℕ → ℕ → List ℕ
@@ -135,3 +136,23 @@ then {s} a m b =
           ∙ sym (unread-behind s (a .bytes) (b .bytes) (sym (a .rest) ∙ a .more m));
       more = b .more;
     }
+
+-- == the end ==
+
+pub closed-by-newline : (s : Session) → 0 < s .length → closed s ≡ after s (code "\n")
+closed-by-newline s h = rw (lt-ltb 0 (s .length) h)
+
+pub closed-before : (s : Session) → s .length ≤ 0 → closed s ≡ s
+closed-before s h = rw (le-ltb 0 (s .length) h)
+
+-- the last that is said ends in the counts, with the number of refused lines that is told
+pub counts-last : (s : Session) → lastSaid s ≡ cond (ltb 0 (s .length)) (said s (code "\n")) [] ++ countsText (closed s .lines) (refusedOf s)
+unfolding lastSaid
+counts-last s = go (ltb 0 (s .length))
+  where
+    go :
+        (t : Bool)
+        → cond t (said s (code "\n") ++ countsText (after s (code "\n") .lines) (after s (code "\n") .refusals)) (countsText (s .lines) (s .refusals))
+        ≡ cond t (said s (code "\n")) [] ++ countsText (cond t (after s (code "\n")) s .lines) (cond t (after s (code "\n")) s .refusals)
+    go true = refl
+    go false = refl

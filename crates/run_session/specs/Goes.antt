@@ -46,6 +46,10 @@ pub record Fed (s : Session) (w : Went) : Type 0 where
 abbrev pub lastOf : Went → List ℕ
 lastOf w = cond (w .failed) [] (lastSaid (w .session))
 
--- how many lines were refused at the end of the input: a last line that lacks its newline counts
+-- at the end of the input a last line that lacks its newline is ended
+abbrev pub closed : Session → Session
+closed s = cond (ltb 0 (s .length)) (after s (code "\n")) s
+
+-- how many lines were refused: what `N` says (`counts-last` of proofs/Parts.antt)
 abbrev pub refusedOf : Session → ℕ
-refusedOf s = cond (ltb 0 (s .length)) (after s (code "\n") .refusals) (s .refusals)
+refusedOf s = closed s .refusals

@@ -2,12 +2,11 @@
 -- Assumes nothing.
 use Prim.Native.Nat.{_≤_}
 use native.Mathlib.Omega.{arith}
-use mathlib.Core.Path.{ap, _∙_}
+use mathlib.Core.Path.{sym, ap, _∙_}
 use borrow.Author.Needs.{needs}
-use borrow.Author.Tests.{lt-ltb, le-ltb}
 use lib.ListN.{length}
 use Rattle.session_rules.specs.declared.Session.{Session}
-use Rattle.run_session.proofs.Parts.{newline-fed}
+use Rattle.run_session.proofs.Parts.{newline-fed, closed-by-newline, closed-before}
 use Rattle.run_session.proofs.refused.Statement.{statement}
 use Rattle.run_session.proofs.refused.Tie as tie
 
@@ -16,11 +15,11 @@ returns c =
     let s = c .before .before .before .before .before .before .before .before .args .s in
     let feed = c .before .before .feed in
     let room : 32 ≤ length (c .before .before .before .before .before .buffer .result) = omega (arith, c .before .before .before .before .before .buffer .ensures) in
-    rw (lt-ltb 0 (s .length) (c .before .before .before .before .before .before .if1 .taken))
-    (ap (λ (t : Session). t .refusals) (feed .ensures .1 .0 ∙ newline-fed s room (feed .ensures .0)))
+    ap (λ (t : Session). t .refusals)
+    (feed .ensures .1 .0 ∙ newline-fed s room (feed .ensures .0) ∙ sym (closed-by-newline s (c .before .before .before .before .before .before .if1 .taken)))
 
 returns-2 : tie.Need-returns-2
-returns-2 c = rw (le-ltb 0 (c .before .before .args .s .length) (c .if1 .left))
+returns-2 c = ap (λ (t : Session). t .refusals) (sym (closed-before (c .before .before .args .s) (c .if1 .left)))
 
 pub refused-spec : {M : Type 1} → statement M
 refused-spec = tie.close (tie.spec (λ c κs. search needs) (λ c. search needs) (λ c. search needs) (λ c κs. search needs) returns returns-2)
