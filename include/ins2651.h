@@ -52,7 +52,7 @@ enum {
     INS2651_COMMAND_TRANSMIT = 1,      /* transmit enable */
     INS2651_COMMAND_DTR = 2,           /* makes the output DTR low */
     INS2651_COMMAND_RECEIVE = 4,       /* receive enable */
-    INS2651_COMMAND_BREAK = 8,         /* sends 0 while no frame is under way */
+    INS2651_COMMAND_BREAK = 8,         /* sends 0 while no frame is under way, with transmit on and CTS low */
     INS2651_COMMAND_RESET_ERROR = 16,  /* clears the error flags at the write, and reads back as 0 */
     INS2651_COMMAND_RTS = 32           /* makes the output RTS low */
 };
@@ -68,8 +68,8 @@ enum {
 };
 
 /* The byte of mode 1: 5 to 8 data bits, one of the parities and one of the stop lengths above, and 1, 16 or 64 ticks a bit. It is a
- * constant where its arguments are. Any other argument makes it 0, which the chip refuses (INS2651_SYNCHRONOUS). Give it no
- * argument that must be evaluated only once. */
+ * constant where its arguments are. Its arguments are ints. Any other one makes it 0, which the chip refuses (INS2651_SYNCHRONOUS).
+ * Give it no argument that must be evaluated only once. */
 #define INS2651_MODE1(length, parity, stop, factor) \
     INS2651_MODE1_BYTE((int)(length), (int)(parity), (int)(stop), (int)(factor))
 #define INS2651_MODE1_BYTE(n, p, s, f) \

@@ -89,19 +89,24 @@ static int does(const char *line) {
     return 1;
 }
 
-/* Cuts the newline off a line that fgets read; 0 where there is none, as the line goes on or has a NUL. */
-static int cut_newline(char *line) {
-    size_t length = strcspn(line, "\n");
-    if (line[length] == '\0') return feof(stdin) != 0; /* the last line may lack its newline */
+/* The next line without its newline: 1, or 0 at the end of the input, or -1 where it is too long or has a NUL. */
+static int next_line(char *line, size_t size) {
+    size_t length = 0;
+    int c;
+    while ((c = getchar()) != EOF && c != '\n') {
+        if (c == '\0' || length + 1 == size) return -1;
+        line[length++] = (char)c;
+    }
     line[length] = '\0';
-    return 1;
+    return c == '\n' || length > 0; /* the last line may lack its newline */
 }
 
 int main(void) {
-    char line[128];
-    while (fgets(line, sizeof line, stdin)) {
-        if (!cut_newline(line) || !does(line)) {
-            fprintf(stderr, "driver: no call: %s\n", line);
+    char line[127];
+    int there;
+    while ((there = next_line(line, sizeof line)) != 0) {
+        if (there < 0 || !does(line)) {
+            fprintf(stderr, "driver: no call: %s\n", there < 0 ? "a line over 126 bytes, or a NUL" : line);
             return 2;
         }
         if (fflush(stdout) != 0) return 2;

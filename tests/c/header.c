@@ -59,16 +59,14 @@ static int is_read_as_made(int length, int parity, int stop, int factor) {
 }
 
 static void mode1_is_the_chips(void) {
-    int combinations = 0;
     for (int l = 0; l < 4; l++)
         for (int p = 0; p < 3; p++)
             for (int s = 0; s < 3; s++)
-                for (int f = 0; f < 3; f++, combinations++)
+                for (int f = 0; f < 3; f++)
                     if (!is_read_as_made(lengths[l], parities[p], stops[s], factors[f])) {
                         printf("header: INS2651_MODE1(%d, %d, %d, %d)\n", lengths[l], parities[p], stops[s], factors[f]);
                         failures++;
                     }
-    holds(combinations == 108, "the 108 combinations of mode 1");
     holds(WORKED == 206, "document 01's 206");
     holds(sizeof(INS2651_MODE1(8, INS2651_PARITY_NONE, INS2651_STOP_2, 16)) == 1, "INS2651_MODE1 is a byte");
 }

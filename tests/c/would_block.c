@@ -1,4 +1,5 @@
-/* would_block N COMMAND..: runs a command whose descriptor N fails where it would block. */
+/* would_block N COMMAND..: runs a command whose descriptor N fails where it would block, and soon, if it is a pipe. */
+#define _GNU_SOURCE
 #include <fcntl.h>
 #include <stdio.h>
 #include <stdlib.h>
@@ -12,6 +13,7 @@ int main(int count, char **words) {
         perror("would_block");
         return 2;
     }
+    fcntl(descriptor, F_SETPIPE_SZ, 4096); /* a page at the least; no pipe has no such size */
     execvp(words[2], words + 2);
     perror(words[2]);
     return 2;

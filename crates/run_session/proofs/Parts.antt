@@ -11,7 +11,6 @@ use lib.Dec.{ltb}
 use lib.ListN.{length, take, drop, length-drop, take-append-drop}
 use lib.Seq.{length-take-le, take-all, take-take, take-add}
 use Rattle.line_rules.proofs.Choice.{each, either}
-use Rattle.line_rules.proofs.Table.{both}
 use Rattle.rows.specs.Text.{countsText}
 use Rattle.session_rules.specs.declared.Session.{Session}
 use Rattle.session_rules.specs.Bytes.{goesOn, after, said, afterAll, taken, lastSaid}
@@ -117,24 +116,19 @@ module _ (s : Session) (piece : List ℕ) (last : ℕ) (h : last + 1 ≡ length 
 -- == one read after another ==
 
 pub fed : {s : Session} {bytes : List ℕ} {w : Went} → Answered s bytes w → Fed s w
-fed {s} {bytes} {w} a =
-    record {
-      bytes = bytes;
-      session = a .session;
-      rest = a .rest;
-      more = λ m. a .rest ∙ none-unread s bytes (ap (λ (u : Session). goesOn u) (sym (a .session)) ∙ both (ltb 0 (length bytes)) (goesOn (w .session)) (sym (a .more) ∙ m) .1);
-    }
+fed {s} {bytes} {w} a = record { bytes = bytes; session = a .session; rest = λ told. go told (goesOn (w .session)) refl }
+  where
+    go : w .rest ≡ true → (t : Bool) → goesOn (w .session) ≡ t → goesOn (w .session) ≡ false
+    go told true on = absurd (true≢false (sym told ∙ a .rest ∙ none-unread s bytes (ap (λ (u : Session). goesOn u) (sym (a .session)) ∙ on)))
+    go told false off = off
 
--- what is taken after the bytes of a read is taken with them, where more was wanted
-pub then : {s : Session} {w v : Went} → Fed s w → w .more ≡ true → Fed (w .session) v → Fed s v
-then {s} a m b =
+-- what is taken after the bytes of a read is taken with them
+pub then : {s : Session} {w v : Went} → Fed s w → Fed (w .session) v → Fed s v
+then {s} a b =
     record {
       bytes = a .bytes ++ b .bytes;
       session = b .session ∙ ap (λ (t : Session). afterAll t (b .bytes)) (a .session) ∙ sym (after-append s (a .bytes) (b .bytes));
-      rest =
-          b .rest ∙ ap (λ (t : Session). staysUnread t (b .bytes)) (a .session)
-          ∙ sym (unread-behind s (a .bytes) (b .bytes) (sym (a .rest) ∙ a .more m));
-      more = b .more;
+      rest = b .rest;
     }
 
 -- == the end ==

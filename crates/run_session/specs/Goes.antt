@@ -18,7 +18,7 @@ pub record TookSome (s : Session) (piece : List ℕ) (t : Took) : Type 0 where
   pub some : 0 < length piece → 0 < t .used
   pub session : t .session ≡ afterAll s (take (t .used) piece)
 
--- the session s has taken these bytes, each once and in order; more is wanted unless the last line is taken
+-- the session s has taken these bytes, each once and in order; more is wanted unless the last line is taken, and no rest is told
 pub record TookAll (s : Session) (bytes : List ℕ) (w : Went) : Type 0 where
   pub session : w .session ≡ afterAll s bytes
   pub more : w .more ≡ goesOn (w .session)
@@ -35,12 +35,11 @@ pub record Answered (s : Session) (bytes : List ℕ) (w : Went) : Type 0 where
   pub more : w .more ≡ (ltb 0 (length bytes) && goesOn (w .session))
   pub rest : w .rest ≡ staysUnread s bytes
 
--- the session s has taken some bytes, which system calls moved; more is wanted only where none of them stayed unread
+-- the session s has taken some bytes, which system calls moved; a rest is told only where the last line is taken
 pub record Fed (s : Session) (w : Went) : Type 0 where
   pub bytes : List ℕ
   pub session : w .session ≡ afterAll s bytes
-  pub rest : w .rest ≡ staysUnread s bytes
-  pub more : w .more ≡ true → w .rest ≡ false
+  pub rest : w .rest ≡ true → goesOn (w .session) ≡ false
 
 -- the last that is said: the last line and the counts, and after a failure nothing
 abbrev pub lastOf : Went → List ℕ

@@ -188,13 +188,16 @@ fn refused(s: Session) -> u16
     s.refusals
 }
 
-// Words on standard error where the whole input was answered and written: they are no part of the output.
-fn tell(rest: bool, refusals: u16) {
-    if rest {
+// Words on standard error where the whole input was answered and written: they are no part of the output. That the last line
+// was taken is for `./session`, which looks whether there is a rest.
+fn tell(w: Went, refusals: u16) {
+    if w.rest {
         io::write_all(
             STDERR_FILENO,
             b"session: lines after the 65,535th stayed unread\n",
         );
+    } else if w.session.lines == 65535 {
+        io::write_all(STDERR_FILENO, b"session: 65,535 lines are taken\n");
     }
     if 0 < refusals {
         io::write_all(STDERR_FILENO, b"session: lines refused: ");
@@ -210,6 +213,6 @@ fn main() {
     if !io::write_all(STDOUT_FILENO, &out[..n]) {
         unwritten(w.session);
     } else if !w.failed {
-        tell(w.rest, refused(w.session));
+        tell(w, refused(w.session));
     }
 }
