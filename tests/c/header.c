@@ -3,6 +3,7 @@
 #include <string.h>
 
 #include "ins2651.h"
+#include "ins2651.h" /* it may be included twice */
 
 static int failures = 0;
 
@@ -129,8 +130,10 @@ static void status_of_the_sender(void) {
 static void status_of_the_pins(void) {
     ins2651 chip = INS2651_RESET;
     ins2651_pins(&chip, 0, 1, 1);
+    holds(chip.pins.dsr == 0 && chip.pins.dcd == 1 && chip.pins.cts == 1 && chip.flags.change == 1, "the fields of a low DSR");
     holds(status(&chip) == (INS2651_STATUS_DSR | INS2651_STATUS_TXEMT), "INS2651_STATUS_DSR, and its change");
     ins2651_pins(&chip, 1, 0, 1);
+    holds(chip.pins.dsr == 1 && chip.pins.dcd == 0 && chip.pins.cts == 1, "the fields of a low DCD");
     holds(status(&chip) == (INS2651_STATUS_DCD | INS2651_STATUS_TXEMT), "INS2651_STATUS_DCD, and its change");
     holds(status(&chip) == INS2651_STATUS_DCD, "a status read clears the change");
 }
@@ -144,8 +147,10 @@ static void status_of_the_receiver(void) {
     holds(!(ins2651_outputs(&chip) & INS2651_RXRDY), "the output INS2651_RXRDY is low where the status bit is 1");
     hears(&chip, "01000001");
     holds(status(&chip) == (seen |= INS2651_STATUS_OVERRUN), "INS2651_STATUS_OVERRUN of a second one");
+    holds(chip.flags.overrun == 1 && chip.flags.parity == 0 && chip.flags.framing == 0, "the field of an overrun");
     hears(&chip, "01000011");
     holds(status(&chip) == (seen |= INS2651_STATUS_PARITY), "INS2651_STATUS_PARITY of a wrong parity");
+    holds(chip.flags.parity == 1 && chip.flags.framing == 0, "the field of a wrong parity");
     hears(&chip, "01000000");
     holds(status(&chip) == (seen |= INS2651_STATUS_FRAMING), "INS2651_STATUS_FRAMING of a stop of 0");
     ins2651_write(&chip, INS2651_COMMAND, INS2651_COMMAND_RECEIVE | INS2651_COMMAND_RESET_ERROR);
