@@ -29,20 +29,20 @@ fn endless(t: bool) -> u16
 // == conditions ==
 
 // Bits 0, 3 and 2 of the command, each by its weight, as the chip reads them.
-fn sending(d: Device) -> bool
-    ensures { λ r. ⌜ r ≡ Conditions.sending d ⌝ }
+fn may_start(d: Device) -> bool
+    ensures { λ r. ⌜ r ≡ Conditions.mayStart d ⌝ }
 {
     (d.registers.command / 1 % 2 == 1) & (d.pins.cts == 0) & (0 < d.registers.accepted)
 }
 
-fn breaking(d: Device) -> bool
-    ensures { λ r. ⌜ r ≡ Conditions.breaking d ⌝ }
+fn break_on(d: Device) -> bool
+    ensures { λ r. ⌜ r ≡ Conditions.breakOn d ⌝ }
 {
     d.registers.command / 8 % 2 == 1
 }
 
-fn receiving(d: Device) -> bool
-    ensures { λ r. ⌜ r ≡ Conditions.receiving d ⌝ }
+fn listening(d: Device) -> bool
+    ensures { λ r. ⌜ r ≡ Conditions.listening d ⌝ }
 {
     (d.registers.command / 4 % 2 == 1) & (d.pins.dcd == 0) & (0 < d.registers.accepted)
 }
@@ -166,18 +166,18 @@ pub fn looks(d: Device) -> bool
 pub fn marks(d: Device) -> bool
     ensures { λ r. ⌜ r ≡ Calm.marks d ⌝ }
 {
-    sender_marks(d.sender, sending(d), breaking(d))
+    sender_marks(d.sender, may_start(d), break_on(d))
 }
 
 // How many joined ticks only count in it, told whether the line that it hears is 1 for as long.
 pub fn ticks(d: Device, marks: bool) -> u16
     ensures { λ r. ⌜ r ≡ Calm.calm d marks ⌝ }
 {
-    let heard = receiver_calm(d.receiver, receiving(d), marks);
+    let heard = receiver_calm(d.receiver, listening(d), marks);
     if heard == 0 {
         return 0;
     }
-    least(heard, sender_calm(d.sender, sending(d), breaking(d)))
+    least(heard, sender_calm(d.sender, may_start(d), break_on(d)))
 }
 
 // What k of them leave of it.

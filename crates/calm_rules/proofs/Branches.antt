@@ -9,7 +9,7 @@ use borrow.Author.Tests.{lt-ltb, le-ltb, ltb-true, ltb-false}
 use Rattle.line_rules.specs.Sending.{frameLength}
 use Rattle.link_rules.specs.declared.Frame.{Frame}
 use Rattle.ins2651_rules.specs.declared.Device.{Device}
-use Rattle.ins2651_rules.specs.Conditions.{receiving}
+use Rattle.ins2651_rules.specs.Conditions.{listening}
 use Rattle.calm_rules.specs.Calm.{least, placesLeft, receiverCalm, calm}
 
 -- == the lesser ==
@@ -71,6 +71,6 @@ module _ (g : Frame) (l : ℕ) (q : l ≡ frameLength (g .format)) where
 -- == the device ==
 
 -- a receiver with no calm tick leaves the device none
-pub none-heard : (d : Device) (m live : Bool) (n : ℕ) → live ≡ receiving d → n ≡ receiverCalm (d .receiver) live m → n ≡ 0 → 0 ≡ calm d m
+pub none-heard : (d : Device) (m live : Bool) (n : ℕ) → live ≡ listening d → n ≡ receiverCalm (d .receiver) live m → n ≡ 0 → 0 ≡ calm d m
 unfolding calm
 none-heard d m live n e q z = least-none _ _ (sym (ap (λ (b : Bool). receiverCalm (d .receiver) b m) e) ∙ sym q ∙ z)

@@ -14,7 +14,7 @@ use Rattle.link_rules.specs.Transmitting.{frameAt}
 use Rattle.link_rules.specs.Within.{isNoFormat, restInRange}
 use Rattle.ins2651_rules.specs.declared.Device.{Device}
 use Rattle.ins2651_rules.specs.Shape.{withHalves}
-use Rattle.ins2651_rules.specs.Conditions.{sending, breaking, receiving}
+use Rattle.ins2651_rules.specs.Conditions.{mayStart, breakOn, listening}
 
 abbrev pub least : ℕ → ℕ → ℕ
 least m n = cond (ltb m n) m n
@@ -81,11 +81,11 @@ looks d = eqb (d .receiver .state .phase) 2 && eqb (d .receiver .state .countdow
 
 -- its calm ticks send 1
 unfoldable pub marks : Device → Bool
-marks d = senderMarks (d .sender) (sending d) (breaking d)
+marks d = senderMarks (d .sender) (mayStart d) (breakOn d)
 
 -- how many joined ticks only count in it, told whether the line that it hears is 1 for as long
 unfoldable pub calm : Device → Bool → ℕ
-calm d m = least (receiverCalm (d .receiver) (receiving d) m) (senderCalm (d .sender) (sending d) (breaking d))
+calm d m = least (receiverCalm (d .receiver) (listening d) m) (senderCalm (d .sender) (mayStart d) (breakOn d))
 
 -- what k of them leave of it
 unfoldable pub skipped : ℕ → Device → Device

@@ -10,14 +10,14 @@ use borrow.Author.Tests.{lt-ltb, le-ltb, ne-eqb, ltb-true, ltb-false}
 use lib.Dec.{ltb, eqb}
 use lib.ListN.{length, length-append}
 use Rattle.fields.specs.declared.Field.{Field}
-use Rattle.fields.specs.Parted.{onFirst, parts, none, areDigits, valueFrom, numberOf, letterOf, fieldOf, fieldsOf}
+use Rattle.fields.specs.Parted.{onFirst, parts, noNumber, areDigits, valueFrom, numberOf, letterOf, fieldOf, fieldsOf}
 use Rattle.fields.specs.Reading.{counted, soFar, longer, only, extended, held, gathered, heldFields, empty, placed, parted, push, pushes}
 use Rattle.fields.proofs.Digits.{digits-more, value-more, value-below}
 
 -- == a field ==
 
 -- an empty field is as one whose digits say 0
-so-far-is : (l : List ℕ) → soFar (fieldOf l) ≡ cond (areDigits l && ltb (length l) 10) (valueFrom 0 l) none
+so-far-is : (l : List ℕ) → soFar (fieldOf l) ≡ cond (areDigits l && ltb (length l) 10) (valueFrom 0 l) noNumber
 unfolding fieldOf
 so-far-is [] = refl
 so-far-is (x ∷ xs) = rw (ne-eqb (min (suc (length xs)) 10) 0 (λ e. omega arith), lt-ltb 0 (suc (length xs)) (omega arith), and-true)
@@ -26,7 +26,7 @@ longer-is : (l : List ℕ) (b : ℕ) → longer (fieldOf l) b ≡ numberOf (l ++
 unfolding longer fieldOf
 longer-is l b = go (areDigits l) refl (ltb (length l) 9) refl
   where
-    same : (t : Bool) → cond t none none ≡ none
+    same : (t : Bool) → cond t noNumber noNumber ≡ noNumber
     same true = refl
     same false = refl
 

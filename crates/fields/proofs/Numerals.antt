@@ -10,7 +10,7 @@ use borrow.Author.Tests.{lt-ltb, le-leb, ltb-true}
 use lib.Dec.{ltb}
 use lib.ListN.{length, length-append}
 use lib.Seq.{append-snoc}
-use Rattle.fields.specs.Parted.{none, areDigits, valueFrom, numberOf, numeral}
+use Rattle.fields.specs.Parted.{noNumber, areDigits, valueFrom, numberOf, numeral}
 use Rattle.fields.proofs.Digits.{digits-more, digits-first, value-more, value-below}
 
 pub length-numeral : (k n : ℕ) → length (numeral k n) ≡ k
@@ -46,11 +46,11 @@ pub record Numeral (l : List ℕ) : Type 0 where
   pub within : numberOf l < 10 ^ length l
   pub text : l ≡ numeral (length l) (numberOf l)
 
-pub number-is : (l : List ℕ) → ltb (numberOf l) none ≡ true → Numeral l
+pub number-is : (l : List ℕ) → ltb (numberOf l) noNumber ≡ true → Numeral l
 number-is l h = go _ refl
   where
     go : (t : Bool) → (areDigits l && ltb 0 (length l) && ltb (length l) 10) ≡ t → Numeral l
-    go false e = absurd (omega (arith, ltb-true none none (rw e at h)))
+    go false e = absurd (omega (arith, ltb-true noNumber noNumber (rw e at h)))
     go true e =
         let t = and-eq-true-iff (areDigits l && ltb 0 (length l)) (ltb (length l) 10) .0 e in
         let u = and-eq-true-iff (areDigits l) (ltb 0 (length l)) .0 (t .0) in

@@ -23,8 +23,8 @@ parts sep (x ∷ xs) = cond (eqb x sep) ([] ∷ parts sep xs) (onFirst x (parts 
 -- == a field, read both ways ==
 
 -- what is no number reads as this, above every limit
-abbrev pub none : ℕ
-none = 4294967295
+abbrev pub noNumber : ℕ
+noNumber = 4294967295
 
 abbrev pub isDigit : ℕ → Bool
 isDigit b = leb (code "0") b && leb b (code "9")
@@ -40,7 +40,7 @@ valueFrom v (b ∷ bs) = valueFrom (v * 10 + (b - code "0")) bs
 
 -- 1 to 9 digits
 abbrev pub numberOf : List ℕ → ℕ
-numberOf l = cond (areDigits l && ltb 0 (length l) && ltb (length l) 10) (valueFrom 0 l) none
+numberOf l = cond (areDigits l && ltb 0 (length l) && ltb (length l) 10) (valueFrom 0 l) noNumber
 
 -- n written with k digits, leading zeros among them: what a field of k digits is (proofs/Numerals.antt)
 abbrev pub numeral : ℕ → ℕ → List ℕ

@@ -7,7 +7,7 @@ use mathlib.Core.List.{List, [], _∷_, _++_}
 use lib.Dec.{eqb, ltb}
 use Rattle.fields.specs.declared.Field.{Field}
 use Rattle.fields.specs.declared.Fields.{Fields}
-use Rattle.fields.specs.Parted.{none, isDigit}
+use Rattle.fields.specs.Parted.{noNumber, isDigit}
 
 -- one more, up to most
 abbrev pub counted : ℕ → ℕ → ℕ
@@ -16,7 +16,7 @@ counted n most = cond (ltb n most) (n + 1) most
 -- == a field ==
 
 abbrev pub blank : Field
-blank = record { number = none; letter = 0; size = 0 }
+blank = record { number = noNumber; letter = 0; size = 0 }
 
 abbrev pub digit : ℕ → ℕ
 digit b = b - code "0"
@@ -27,7 +27,7 @@ soFar f = cond (eqb (f .size) 0) 0 (f .number)
 
 -- a tenth digit, or one behind what is no number, makes no number
 unfoldable pub longer : Field → ℕ → ℕ
-longer f b = cond (ltb (soFar f) 100000000) (cond (isDigit b && ltb (f .size) 9) (soFar f * 10 + digit b) none) none
+longer f b = cond (ltb (soFar f) 100000000) (cond (isDigit b && ltb (f .size) 9) (soFar f * 10 + digit b) noNumber) noNumber
 
 -- the byte b where it is the field's only one
 abbrev pub only : Field → ℕ → ℕ

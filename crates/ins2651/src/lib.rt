@@ -123,8 +123,8 @@ fn receive_format(r: Registers) -> Format
 
 // == conditions ==
 
-fn transmitting(d: Device) -> bool
-    ensures { λ r. ⌜ r ≡ Conditions.transmitting d ⌝ }
+fn transmit_enabled(d: Device) -> bool
+    ensures { λ r. ⌜ r ≡ Conditions.transmitEnabled d ⌝ }
 {
     has(1, d.registers.command)
 }
@@ -148,21 +148,21 @@ fn mode_set(d: Device) -> bool
 }
 
 // A frame or a break may start.
-fn sending(d: Device) -> bool
-    ensures { λ r. ⌜ r ≡ Conditions.sending d ⌝ }
+fn may_start(d: Device) -> bool
+    ensures { λ r. ⌜ r ≡ Conditions.mayStart d ⌝ }
 {
-    transmitting(d) & clear_to_send(d) & mode_set(d)
+    transmit_enabled(d) & clear_to_send(d) & mode_set(d)
 }
 
-fn breaking(d: Device) -> bool
-    ensures { λ r. ⌜ r ≡ Conditions.breaking d ⌝ }
+fn break_on(d: Device) -> bool
+    ensures { λ r. ⌜ r ≡ Conditions.breakOn d ⌝ }
 {
     has(8, d.registers.command)
 }
 
 // A receive tick looks at its sample.
-fn receiving(d: Device) -> bool
-    ensures { λ r. ⌜ r ≡ Conditions.receiving d ⌝ }
+fn listening(d: Device) -> bool
+    ensures { λ r. ⌜ r ≡ Conditions.listening d ⌝ }
 {
     has(4, d.registers.command) & carrier(d) & mode_set(d)
 }
@@ -177,11 +177,11 @@ fn unread(d: Device) -> bool
 fn may_write(d: Device) -> bool
     ensures { λ r. ⌜ r ≡ mayWrite d ⌝ }
 {
-    transmitting(d) & (d.sender.full == 0)
+    transmit_enabled(d) & (d.sender.full == 0)
 }
 
-fn marked(d: Device) -> bool
-    ensures { λ r. ⌜ r ≡ Conditions.marked d ⌝ }
+fn either_mark(d: Device) -> bool
+    ensures { λ r. ⌜ r ≡ Conditions.eitherMark d ⌝ }
 {
     (0 < d.flags.empty) | (0 < d.flags.change)
 }
@@ -215,7 +215,7 @@ fn error_bits(f: Flags) -> u8
 fn ready_bits(d: Device) -> u8
     ensures { λ r. ⌜ (r ≡ readyBits d) × (r ≤ 7) ⌝ }
 {
-    weigh(marked(d), 4) + weigh(unread(d), 2) + weigh(may_write(d), 1)
+    weigh(either_mark(d), 4) + weigh(unread(d), 2) + weigh(may_write(d), 1)
 }
 
 fn status_byte(d: Device) -> u8
@@ -232,7 +232,7 @@ fn outputs_of(d: Device) -> OutputPins
     OutputPins {
         txrdy: number(!may_write(d)),
         rxrdy: number(!unread(d)),
-        txemt: number(!marked(d)),
+        txemt: number(!either_mark(d)),
         dtr: number(!dtr),
         rts: number(!rts),
     }
@@ -674,14 +674,14 @@ pub fn set_pins(d: Device, dsr: u8, dcd: u8, cts: u8) -> Outcome
 fn sent(d: Device) -> Sent
     ensures { λ r. ⌜ r ≡ Ticks.sent d ⌝ }
 {
-    link::transmit(d.sender, sending(d), breaking(d), send_format(d.registers))
+    link::transmit(d.sender, may_start(d), break_on(d), send_format(d.registers))
 }
 
 // What it leaves, and the empty-mark.
 fn sent_by(mut d: Device, s: Sent) -> Ticked
     ensures { λ r. ⌜ r ≡ sentBy d s ⌝ }
 {
-    let empty = or_set(s.drained & transmitting(d), d.flags.empty);
+    let empty = or_set(s.drained & transmit_enabled(d), d.flags.empty);
     let half = s.half;
     d.sender = half;
     d.flags.empty = empty;
@@ -726,7 +726,7 @@ fn noted(f: Flags, overrun: bool, heard: Heard) -> Flags
 fn received(d: Device, x: bool) -> Received
     ensures { λ r. ⌜ r ≡ Ticks.received d x ⌝ }
 {
-    link::receive(d.receiver, receiving(d), receive_format(d.registers), x)
+    link::receive(d.receiver, listening(d), receive_format(d.registers), x)
 }
 
 // What it leaves, and the flags.

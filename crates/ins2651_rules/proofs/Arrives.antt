@@ -21,20 +21,20 @@ use Rattle.line_rules.proofs.Table.{both}
 use Rattle.link_rules.specs.declared.ReceiverHalf.{ReceiverHalf}
 use Rattle.link_rules.specs.declared.Received.{Received}
 use Rattle.link_rules.specs.Parts.{emptied, dropped}
-use Rattle.link_rules.specs.Hearing.{take, stepped}
+use Rattle.link_rules.specs.Hearing.{brought, stepped}
 use Rattle.link_rules.specs.Hearing as link-hearing
 use Rattle.line_rules.proofs.Choice.{either}
 use Rattle.link_rules.proofs.Halves.{Tuned, receive-is, hear-state, hear-heard, hear-tuned}
 use Rattle.ins2651_rules.specs.declared.Device.{Device}
 use Rattle.ins2651_rules.specs.declared.Outcome.{Outcome}
 use Rattle.ins2651_rules.specs.Modes.{has, receiveEnable, receiveFormat}
-use Rattle.ins2651_rules.specs.Conditions.{receiving}
+use Rattle.ins2651_rules.specs.Conditions.{listening}
 use Rattle.ins2651_rules.specs.Ranges.{inRange, settled}
 use Rattle.ins2651_rules.specs.RegisterWrites.{stored, writeRegister}
 use Rattle.ins2651_rules.specs.Ticks.{received, receiveTick}
 use Rattle.ins2651_rules.specs.Runs.{Call, Reset, Read, Write, SetPins, Transmit, Receive, Outputs, next, after}
 use Rattle.ins2651_rules.specs.Rows.{refusal}
-use Rattle.ins2651_rules.specs.Line.{atSample, samples, arrivedIn, lastValue, Listens, Throughout}
+use Rattle.ins2651_rules.specs.Line.{ifSample, samples, arrivedIn, lastValue, Listens, Throughout}
 use Rattle.ins2651_rules.proofs.Settled.{settled-is}
 use Rattle.ins2651_rules.proofs.Done.{done-write, done-receive}
 use Rattle.ins2651_rules.proofs.Commands.{receive-stored}
@@ -57,24 +57,24 @@ same-as e = record { state = ap (λ (h : ReceiverHalf). h .state) e; format = ap
 on-so : (a b c : Bool) → (a && b && c) ≡ true → a ≡ true
 on-so a b c e = both a b (both (a && b) c e .0) .0
 
-write-same : (d : Device) (address v : ℕ) → receiving (writeRegister d address v) ≡ true → SameHearing (d .receiver) (writeRegister d address v .receiver)
+write-same : (d : Device) (address v : ℕ) → listening (writeRegister d address v) ≡ true → SameHearing (d .receiver) (writeRegister d address v .receiver)
 unfolding writeRegister
 write-same d address v =
-    let Same : Device → Type 0 = λ e. receiving e ≡ true → SameHearing (d .receiver) (e .receiver) in
+    let Same : Device → Type 0 = λ e. listening e ≡ true → SameHearing (d .receiver) (e .receiver) in
     either Same (eqb address 0) (λ _. same-as refl)
     (either Same (eqb address 1) (λ _. same-as refl)
     (either Same (eqb address 2) (λ _. same-as refl)
     (λ l. same-as (ap (λ (b : Bool). cond b (d .receiver) (emptied (dropped (d .receiver)))) (sym (receive-stored v) ∙ on-so (receiveEnable (stored v)) (eqb (d .pins .dcd) 0) (on (d .registers .accepted)) l)))))
 
 abbrev hasSample : Call → Bool
-hasSample c = atSample c (λ (x : Bool). true) false
+hasSample c = ifSample c (λ (x : Bool). true) false
 
-done-same : (d : Device) (c : Call) → refusal d c ≡ 0 → hasSample c ≡ false → inRange d ≡ true → receiving (next d c) ≡ true → SameHearing (settled d .receiver) (next d c .receiver)
+done-same : (d : Device) (c : Call) → refusal d c ≡ 0 → hasSample c ≡ false → inRange d ≡ true → listening (next d c) ≡ true → SameHearing (settled d .receiver) (next d c .receiver)
 done-same d Reset n s h l = absurd (let z : _≡_ {A = ℕ} 0 1 = ap bit l in omega arith)
 done-same d (Read address) n s h l = let r = read-leaves d address n in record { state = r .state; format = r .format; holding = r .holding }
 done-same d (Write address v) n s h l =
     let e : next d (Write address v) ≡ writeRegister (settled d) address v = ap (λ (o : Outcome). o .device) (done-write d address v n) in
-    subst (λ (k : Device). SameHearing (settled d .receiver) (k .receiver)) (sym e) (write-same (settled d) address v (subst (λ (k : Device). receiving k ≡ true) e l))
+    subst (λ (k : Device). SameHearing (settled d .receiver) (k .receiver)) (sym e) (write-same (settled d) address v (subst (λ (k : Device). listening k ≡ true) e l))
 done-same d (SetPins dsr dcd cts) n s h l = same-as (pins-leave d dsr dcd cts n .receiver)
 done-same d Transmit n s h l = same-as (transmit-leaves d .receiver)
 done-same d (Receive x) n s h l = absurd (sampled (leb x 1) n s)
@@ -85,7 +85,7 @@ done-same d (Receive x) n s h l = absurd (sampled (leb x 1) n s)
 done-same d Outputs n s h l = same-as (ap (λ (e : Device). e .receiver) (sym (settled-is d h)))
 
 -- every call but an accepted receive tick leaves what is under way and what is held, as long as receive stays on
-pub hearing-kept : (d : Device) (c : Call) → inRange d ≡ true → hasSample c ≡ false → receiving (next d c) ≡ true → SameHearing (d .receiver) (next d c .receiver)
+pub hearing-kept : (d : Device) (c : Call) → inRange d ≡ true → hasSample c ≡ false → listening (next d c) ≡ true → SameHearing (d .receiver) (next d c .receiver)
 hearing-kept d c h s l = go (eqb (refusal d c) 0) refl
   where
     go : (b : Bool) → eqb (refusal d c) 0 ≡ b → SameHearing (d .receiver) (next d c .receiver)
@@ -94,9 +94,9 @@ hearing-kept d c h s l = go (eqb (refusal d c) 0) refl
 
 -- == a sample ==
 
-take-holding : (r : ReceiverHalf) (k : ℕ) (h : Heard) (rest : List Arrived) → lastValue (r .holding) (tell k h rest) ≡ lastValue (take r h .half .holding) rest
-take-holding r k Nothing rest = refl
-take-holding r k (Character a) rest = refl
+brought-holding : (r : ReceiverHalf) (k : ℕ) (h : Heard) (rest : List Arrived) → lastValue (r .holding) (tell k h rest) ≡ lastValue (brought r h .half .holding) rest
+brought-holding r k Nothing rest = refl
+brought-holding r k (Character a) rest = refl
 
 module _ (f : Format) (d : Device) (x : Bool) (h : inRange d ≡ true) (l : Listens f d) (t : Tuned f (d .receiver)) where
   half-is : received d x ≡ link-hearing.receive (d .receiver) true f x
@@ -114,7 +114,7 @@ module _ (f : Format) (d : Device) (x : Bool) (h : inRange d ≡ true) (l : List
   held : (k : ℕ) (rest : List Arrived) → lastValue (d .receiver .holding) (tell k (received d x .heard) rest) ≡ lastValue (received d x .half .holding) rest
   held k rest =
       ap (λ (o : Heard). lastValue (d .receiver .holding) (tell k o rest)) heard-is
-      ∙ take-holding (stepped (d .receiver) f (sample f (d .receiver .state) x .next)) k (sample f (d .receiver .state) x .heard) rest
+      ∙ brought-holding (stepped (d .receiver) f (sample f (d .receiver .state) x .next)) k (sample f (d .receiver .state) x .heard) rest
       ∙ ap (λ (o : Received). lastValue (o .half .holding) rest) (sym (half-is ∙ receive-is f (d .receiver) x t))
 
 -- == a run ==
@@ -123,7 +123,7 @@ pub record Hears (f : Format) (k : ℕ) (d : Device) (cs : List Call) : Type 0 w
   pub brings : arrivedIn d k cs ≡ arrivals f (d .receiver .state) k (samples cs)
   pub holds : after d cs .receiver .holding ≡ lastValue (d .receiver .holding) (arrivedIn d k cs)
 
-at-none : {A : Type 0} (c : Call) (g : Bool → A) (b : A) → hasSample c ≡ false → atSample c g b ≡ b
+at-none : {A : Type 0} (c : Call) (g : Bool → A) (b : A) → hasSample c ≡ false → ifSample c g b ≡ b
 at-none Reset g b e = refl
 at-none (Read address) g b e = refl
 at-none (Write address v) g b e = refl

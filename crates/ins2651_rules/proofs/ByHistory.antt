@@ -22,7 +22,7 @@ use Rattle.ins2651_rules.specs.declared.Answer.{Answer}
 use Rattle.ins2651_rules.specs.declared.Outcome.{Outcome}
 use Rattle.ins2651_rules.specs.Shape.{resetDevice}
 use Rattle.ins2651_rules.specs.Modes.{sendFormat, receiveFormat, transmitEnable, receiveEnable, commandClears}
-use Rattle.ins2651_rules.specs.Conditions.{dataSetReady, carrier, transmitting, sending, breaking, receiving, unread}
+use Rattle.ins2651_rules.specs.Conditions.{dataSetReady, carrier, transmitEnabled, mayStart, breakOn, listening, unread}
 use Rattle.ins2651_rules.specs.Status.{statusByte}
 use Rattle.ins2651_rules.specs.Ranges.{inRange, settled}
 use Rattle.ins2651_rules.specs.Refusals.{commandRefusal, writeRefusal}
@@ -49,7 +49,7 @@ record Agrees (d : Device) (es : List Happened) : Type 0 where
   empty : on (d .flags .empty) ≡ emptyBy es
   change : on (d .flags .change) ≡ changeBy es
   unread : unread d ≡ unreadBy es
-  enabled : transmitting d ≡ enabledBy es
+  enabled : transmitEnabled d ≡ enabledBy es
   waiting : on (d .sender .full) ≡ waitingBy es
 
 -- == small steps ==
@@ -143,7 +143,7 @@ module _ (d : Device) (es : List Happened) (a : Agrees d es) where
   transmit-shown : Agrees (transmitTick d .device) (record { call = Transmit; heard = Nothing; began = sent d .began; drained = sent d .drained } ∷ es)
   unfolding transmitTick
   transmit-shown =
-      record { dsr = a .dsr; dcd = a .dcd; framing = a .framing; overrun = a .overrun; parity = a .parity; empty = set-or (sent d .drained && transmitting d) (sent d .drained && enabledBy es) (d .flags .empty) (emptyBy es) (ap (λ (b : Bool). sent d .drained && b) (a .enabled)) (a .empty); change = a .change; unread = a .unread; enabled = a .enabled; waiting = ap on (full-after (d .sender) (sending d) (breaking d) (sendFormat (d .registers))) ∙ begins (sent d .began) }
+      record { dsr = a .dsr; dcd = a .dcd; framing = a .framing; overrun = a .overrun; parity = a .parity; empty = set-or (sent d .drained && transmitEnabled d) (sent d .drained && enabledBy es) (d .flags .empty) (emptyBy es) (ap (λ (b : Bool). sent d .drained && b) (a .enabled)) (a .empty); change = a .change; unread = a .unread; enabled = a .enabled; waiting = ap on (full-after (d .sender) (mayStart d) (breakOn d) (sendFormat (d .registers))) ∙ begins (sent d .began) }
     where
       begins : (b : Bool) → on (cond b 0 (d .sender .full)) ≡ cond b false (waitingBy es)
       begins true = refl
@@ -176,8 +176,8 @@ module _ (d : Device) (es : List Happened) (a : Agrees d es) where
       let h : Heard = received d (on x) .heard in
       let o : Bool = received d (on x) .overrun in
       let e : o ≡ (arrives (λ (y : Arrival). true) h && unreadBy es) =
-      overrun-told (d .receiver) (receiving d) (receiveFormat (d .registers)) (on x) ∙ ap (λ (b : Bool). arrives (λ (y : Arrival). true) h && b) (a .unread) in
-      record { dsr = a .dsr; dcd = a .dcd; framing = noted-framing o h; overrun = noted-overrun o h e; parity = noted-parity o h; empty = noted-empty o h; change = noted-change o h; unread = unread-after (d .receiver) (receiving d) (receiveFormat (d .registers)) (on x) ∙ ap (λ (b : Bool). cond (arrives (λ (y : Arrival). true) h) true b) (a .unread); enabled = a .enabled; waiting = a .waiting }
+      overrun-told (d .receiver) (listening d) (receiveFormat (d .registers)) (on x) ∙ ap (λ (b : Bool). arrives (λ (y : Arrival). true) h && b) (a .unread) in
+      record { dsr = a .dsr; dcd = a .dcd; framing = noted-framing o h; overrun = noted-overrun o h e; parity = noted-parity o h; empty = noted-empty o h; change = noted-change o h; unread = unread-after (d .receiver) (listening d) (receiveFormat (d .registers)) (on x) ∙ ap (λ (b : Bool). cond (arrives (λ (y : Arrival). true) h) true b) (a .unread); enabled = a .enabled; waiting = a .waiting }
 
 -- == any call ==
 

@@ -24,7 +24,7 @@ use Rattle.link_rules.proofs.Halves.{frameOf, transmit-under, transmit-begins, 
 use Rattle.ins2651_rules.specs.declared.Device.{Device}
 use Rattle.ins2651_rules.specs.declared.Outcome.{Outcome}
 use Rattle.ins2651_rules.specs.Modes.{has, sendFormat}
-use Rattle.ins2651_rules.specs.Conditions.{sending, breaking}
+use Rattle.ins2651_rules.specs.Conditions.{mayStart, breakOn}
 use Rattle.ins2651_rules.specs.Ranges as range
 use Rattle.ins2651_rules.specs.Ranges.{settled}
 use Rattle.ins2651_rules.specs.RegisterWrites.{writeRegister}
@@ -33,7 +33,7 @@ use Rattle.ins2651_rules.specs.Ticks.{sent, transmitTick, transmit}
 use Rattle.ins2651_rules.specs.Runs.{Call, Reset, Read, Write, SetPins, Transmit, Receive, Outputs, next, after, nowhere}
 use Rattle.ins2651_rules.specs.Rows.{refusal}
 use Rattle.ins2651_rules.specs.History.{resets}
-use Rattle.ins2651_rules.specs.Line.{atTransmit, transmits, levelsSent, senderFree}
+use Rattle.ins2651_rules.specs.Line.{ifTransmit, transmits, levelsSent, senderFree}
 use Rattle.ins2651_rules.proofs.Settled.{settled-is}
 use Rattle.ins2651_rules.proofs.Done.{done-write, does-write}
 use Rattle.ins2651_rules.proofs.Formats.{format-in}
@@ -44,7 +44,7 @@ use Rattle.ins2651_rules.proofs.Leaves.{pins-leave, receive-leaves, rea
 -- == calls that are no transmit tick ==
 
 abbrev isTransmit : Call → Bool
-isTransmit c = atTransmit c true false
+isTransmit c = ifTransmit c true false
 
 write-keeps : (d : Device) (address v : ℕ) → writeRegister d address v .sender .frame ≡ d .sender .frame
 unfolding writeRegister
@@ -75,13 +75,13 @@ module _ (d : Device) (h : range.inRange d ≡ true) (f : Format) (c i : ℕ) (u
   ticks : sent d .level ≡ level f c i
   ticks =
       ap (λ (o : Sent). o .level)
-      (transmit-under (d .sender) (sending d) (breaking d) (sendFormat (d .registers)) (ap (λ (g : Frame). on (g .place)) under ∙ lt-ltb 0 i begun))
+      (transmit-under (d .sender) (mayStart d) (breakOn d) (sendFormat (d .registers)) (ap (λ (g : Frame). on (g .place)) under ∙ lt-ltb 0 i begun))
       ∙ ap (λ (g : Frame). level (g .format) (g .character) (g .place)) under
 
   goes-on : sent d .half .frame ≡ frameNext (frameOf f c i)
   goes-on =
       ap (λ (o : Sent). o .half .frame)
-      (transmit-under (d .sender) (sending d) (breaking d) (sendFormat (d .registers)) (ap (λ (g : Frame). on (g .place)) under ∙ lt-ltb 0 i begun))
+      (transmit-under (d .sender) (mayStart d) (breakOn d) (sendFormat (d .registers)) (ap (λ (g : Frame). on (g .place)) under ∙ lt-ltb 0 i begun))
       ∙ ap frameNext under
 
   pub tick-level : transmit d .level ≡ bit (level f c i)
@@ -94,7 +94,7 @@ module _ (d : Device) (h : range.inRange d ≡ true) (f : Format) (c i : ℕ) (u
 
 -- == a run ==
 
-at-other : {A : Type 0} (k : Call) (a b : A) → isTransmit k ≡ false → atTransmit k a b ≡ b
+at-other : {A : Type 0} (k : Call) (a b : A) → isTransmit k ≡ false → ifTransmit k a b ≡ b
 at-other Reset a b e = refl
 at-other (Read address) a b e = refl
 at-other (Write address v) a b e = refl
@@ -180,7 +180,7 @@ module _ (f : Format) (c : ℕ) (fits : frameLength f ≤ 768) where
 -- == from the write on ==
 
 -- the sender is free and may start: the written character's frame begins at the next transmit tick, and is sent whole
-module _ (d : Device) (v : ℕ) (h : range.inRange d ≡ true) (may : sending d ≡ true) (whole : breaking d ≡ false) (free : senderFree d ≡ true) where
+module _ (d : Device) (v : ℕ) (h : range.inRange d ≡ true) (may : mayStart d ≡ true) (whole : breakOn d ≡ false) (free : senderFree d ≡ true) where
   abbrev f : Format
   f = sendFormat (d .registers)
 
@@ -198,7 +198,7 @@ module _ (d : Device) (v : ℕ) (h : range.inRange d ≡ true) (may : sending d 
   unfolding writeRegister
   begin-is =
       let q = both (eqb (d .sender .frame .place) 0) (eqb (d .sender .guard) 0) free in
-      transmit-begins (loaded (d .sender) v) (sending d) (breaking d) f
+      transmit-begins (loaded (d .sender) v) (mayStart d) (breakOn d) f
       (ap on (eqb-true (d .sender .frame .place) 0 (q .0))) may whole (ap on (eqb-true (d .sender .guard) 0 (q .1))) refl
 
   sent-is : sent (settled written) ≡ beginTick (loaded (d .sender) v) f

@@ -21,9 +21,9 @@ use Rattle.ins2651_rules.specs.declared.Flags.{Flags}
 use Rattle.ins2651_rules.specs.declared.Device.{Device}
 use Rattle.ins2651_rules.specs.declared.Answer.{Answer}
 use Rattle.ins2651_rules.specs.declared.Ticked.{Ticked}
-use Rattle.ins2651_rules.specs.Shape.{resetDevice, withRegisters, pointing, withEmpty, withChange}
+use Rattle.ins2651_rules.specs.Shape.{resetDevice, withRegisters, withEmpty, withChange}
 use Rattle.ins2651_rules.specs.Modes.{has, commandClears, transmitEnable, receiveEnable, sendFormat, receiveFormat}
-use Rattle.ins2651_rules.specs.Conditions.{sending, breaking, receiving, transmitting}
+use Rattle.ins2651_rules.specs.Conditions.{mayStart, breakOn, listening, transmitEnabled}
 use Rattle.ins2651_rules.specs.Ranges.{mode1InRange, commandInRange, registersInRange, pinsInRange, flagsInRange, inRange}
 use Rattle.ins2651_rules.specs.Refusals.{mode1Refusal, modeRefusal, commandRefusal, writeRefusal, pinsRefusal}
 use Rattle.ins2651_rules.specs.RegisterReads.{readRegister}
@@ -36,6 +36,7 @@ use Rattle.ins2651_rules.proofs.Settled.{settled-is, reset-in}
 use Rattle.ins2651_rules.proofs.Done.{does-read, does-write, does-pins, does-transmit, does-receive}
 use Rattle.ins2651_rules.proofs.Commands.{bit4-gone, accepted-stored}
 use Rattle.ins2651_rules.proofs.Formats.{format-in}
+use Rattle.ins2651_rules.proofs.Leaves.{pointing}
 use Rattle.ins2651_rules.proofs.Refused.{address-is-3, command-accepted, mode-accepted, levels-taken, refused-unchanged}
 
 -- == the parts of a device ==
@@ -175,9 +176,9 @@ module _ (d : Device) (p : In d) where
       record {
         registers = p .registers;
         pins = p .pins;
-        sender = transmit-in (d .sender) (sending d) (breaking d) (sendFormat (d .registers)) (p .sender) (λ e. format-in (d .registers .mode1) (has 32 (d .registers .mode2)));
+        sender = transmit-in (d .sender) (mayStart d) (breakOn d) (sendFormat (d .registers)) (p .sender) (λ e. format-in (d .registers .mode1) (has 32 (d .registers .mode2)));
         receiver = p .receiver;
-        flags = empty-in (orSet (sent d .drained && transmitting d) (d .flags .empty)) (set-in (sent d .drained && transmitting d) (d .flags .empty) (f .empty));
+        flags = empty-in (orSet (sent d .drained && transmitEnabled d) (d .flags .empty)) (set-in (sent d .drained && transmitEnabled d) (d .flags .empty) (f .empty));
       }
 
   noted-in : (o : Bool) (h : Heard) → flagsInRange (noted (d .flags) o h) ≡ true
@@ -192,7 +193,7 @@ module _ (d : Device) (p : In d) where
         registers = p .registers;
         pins = p .pins;
         sender = p .sender;
-        receiver = receive-in (d .receiver) (receiving d) (receiveFormat (d .registers)) x (p .receiver) (λ e. format-in (d .registers .mode1) (has 16 (d .registers .mode2)));
+        receiver = receive-in (d .receiver) (listening d) (receiveFormat (d .registers)) x (p .receiver) (λ e. format-in (d .registers .mode1) (has 16 (d .registers .mode2)));
         flags = noted-in (received d x .overrun) (received d x .heard);
       }
 

@@ -9,10 +9,11 @@ use Rattle.line_rules.specs.declared.Heard.the-variants.{Nothing, Character}
 use Rattle.line_rules.specs.Sending.{on}
 use Rattle.line_rules.proofs.Choice.{either}
 use Rattle.ins2651_rules.specs.declared.Flags.{Flags}
+use Rattle.ins2651_rules.specs.declared.Registers.{Registers}
 use Rattle.ins2651_rules.specs.declared.Device.{Device}
 use Rattle.ins2651_rules.specs.declared.Answer.{Answer}
 use Rattle.ins2651_rules.specs.declared.Outcome.{Outcome}
-use Rattle.ins2651_rules.specs.Shape.{withRegisters, withReceiver, pointing, withChange}
+use Rattle.ins2651_rules.specs.Shape.{withRegisters, withReceiver, withChange}
 use Rattle.ins2651_rules.specs.Ranges.{settled}
 use Rattle.ins2651_rules.specs.RegisterReads.{readRegister}
 use Rattle.ins2651_rules.specs.Pinning.{pinned}
@@ -20,6 +21,15 @@ use Rattle.ins2651_rules.specs.Ticks.{transmitTick, transmit, noted, rec
 use Rattle.ins2651_rules.specs.Runs.{Read, SetPins, Transmit, Receive, next}
 use Rattle.ins2651_rules.specs.Rows.{refusal}
 use Rattle.ins2651_rules.proofs.Done.{done-read, done-pins, done-receive}
+
+-- registers with other SYN bytes and other pointers
+abbrev pub withSyns : Registers → ℕ → ℕ → ℕ → ℕ → ℕ → Registers
+withSyns r a b c m s =
+    record { mode1 = r .mode1; mode2 = r .mode2; accepted = r .accepted; command = r .command; syn1 = a; syn2 = b; dle = c; modes = m; syns = s }
+
+-- with other pointers alone
+abbrev pub pointing : Registers → ℕ → ℕ → Registers
+pointing r m s = withSyns r (r .syn1) (r .syn2) (r .dle) m s
 
 -- the three error flags
 pub record SameErrors (f g : Flags) : Type 0 where

@@ -19,20 +19,14 @@ use Rattle.ins2651_rules.specs.RegisterReads.{readRegister, read}
 use Rattle.ins2651_rules.specs.RegisterWrites.{writeRegister, write}
 use Rattle.ins2651_rules.specs.Pinning.{pinned, setPins}
 use Rattle.ins2651_rules.specs.Ticks.{transmitTick, transmit, receiveTick, receive}
-use Rattle.ins2651_rules.specs.Runs.{Call, Reset, Read, Write, SetPins, Transmit, Receive, Outputs, next, after, Said, levels, said, answers}
+use Rattle.ins2651_rules.specs.Runs.{byCall, otherwise, atOutputs, Call, Reset, Read, Write, SetPins, Transmit, Receive, Outputs, next, after, Said, levels, said, answers}
 use Rattle.ins2651_rules.specs.Rows.{refusal}
 use Rattle.ins2651_rules.proofs.Settled.{settled-is, settled-out, reset-in}
 use Rattle.ins2651_rules.proofs.Done.{done-read, done-write, done-pins, done-receive}
 
 -- outputs gives five levels and no device
 abbrev pub handsBack : Call → Bool
-handsBack Reset = true
-handsBack (Read address) = true
-handsBack (Write address v) = true
-handsBack (SetPins dsr dcd cts) = true
-handsBack Transmit = true
-handsBack (Receive x) = true
-handsBack Outputs = false
+handsBack c = byCall (atOutputs false (otherwise true)) c
 
 pub record AsReset (d : Device) (c : Call) : Type 0 where
   pub answer : said d c ≡ said resetDevice c

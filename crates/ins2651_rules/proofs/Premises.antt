@@ -12,7 +12,7 @@ use Rattle.link_rules.specs.Hearing as link-hearing
 use Rattle.link_rules.specs.Within.{senderInRange, receiverInRange}
 use Rattle.ins2651_rules.specs.declared.Device.{Device}
 use Rattle.ins2651_rules.specs.Modes.{formatOf, receiveFormat}
-use Rattle.ins2651_rules.specs.Conditions.{receiving}
+use Rattle.ins2651_rules.specs.Conditions.{listening}
 use Rattle.ins2651_rules.specs.Status.{statusByte}
 use Rattle.ins2651_rules.specs.Ranges.{inRange, settled}
 use Rattle.ins2651_rules.specs.Refusals.{writeRefusal}
@@ -22,7 +22,7 @@ use Rattle.ins2651_rules.specs.Pinning.{pinned, setPins}
 use Rattle.ins2651_rules.specs.Ticks.{transmitTick, transmit, receiveTick, receive}
 use Rattle.ins2651_rules.specs.Runs.{Call, Read, Write, SetPins, Transmit, Receive, Outputs, next}
 use Rattle.ins2651_rules.specs.Line.{levelsSent, samples, arrivedIn, Listens}
-use Rattle.ins2651_rules.specs.BenchCases.{setUp, formatFor}
+use Rattle.ins2651_rules.specs.BenchCases.{setUp, externalFormat}
 use Rattle.ins2651_rules.proofs.FrameWhole.{frame-sent}
 use Rattle.ins2651_rules.proofs.Arrives.{arrivals-are-the-reading}
 
@@ -30,7 +30,7 @@ use Rattle.ins2651_rules.proofs.Arrives.{arrivals-are-the-reading}
 abbrev between : List Call
 between = Write 2 78 ∷ Transmit ∷ Transmit ∷ Write 3 9 ∷ Transmit ∷ Transmit ∷ SetPins 0 0 1 ∷ Transmit ∷ Transmit ∷ Write 3 0 ∷ Transmit ∷ Transmit ∷ Read 1 ∷ Transmit ∷ Receive 0 ∷ Outputs ∷ []
 
-sends-65 : levelsSent (next (setUp 77) (Write 0 65)) (Transmit ∷ between) ≡ map bit (frame (formatFor 77) 65)
+sends-65 : levelsSent (next (setUp 77) (Write 0 65)) (Transmit ∷ between) ≡ map bit (frame (externalFormat 77) 65)
 unfolding line-range.inRange senderInRange receiverInRange formatOf inRange settled writeRefusal writeRegister write pinned setPins
 sends-65 = frame-sent (setUp 77) 65 refl refl refl refl between refl refl
 
@@ -38,9 +38,9 @@ sends-65 = frame-sent (setUp 77) 65 refl refl refl refl between refl refl
 abbrev heard : List Call
 heard = Receive 1 ∷ Read 1 ∷ Receive 0 ∷ Transmit ∷ Receive 2 ∷ Receive 1 ∷ Write 3 7 ∷ Read 4 ∷ SetPins 1 0 0 ∷ Receive 1 ∷ []
 
-hears : arrivedIn (setUp 65) 0 heard ≡ reading (formatFor 65) (samples heard)
+hears : arrivedIn (setUp 65) 0 heard ≡ reading (externalFormat 65) (samples heard)
 unfolding part sample link-transmitting.transmit link-hearing.receive line-range.inRange senderInRange receiverInRange formatOf statusByte inRange settled writeRefusal readRegister read writeRegister write pinned setPins transmitTick transmit receiveTick receive
 hears =
-    let on : (d : Device) → receiving d ≡ true → receiveFormat (d .registers) ≡ formatFor 65 → Listens (formatFor 65) d = λ d l f. record { live = l; format = f } in
-    arrivals-are-the-reading (formatFor 65) (setUp 65) heard refl refl
+    let on : (d : Device) → listening d ≡ true → receiveFormat (d .registers) ≡ externalFormat 65 → Listens (externalFormat 65) d = λ d l f. record { live = l; format = f } in
+    arrivals-are-the-reading (externalFormat 65) (setUp 65) heard refl refl
     (on _ refl refl, (on _ refl refl, (on _ refl refl, (on _ refl refl, (on _ refl refl, (on _ refl refl, (on _ refl refl, (on _ refl refl, (on _ refl refl, (on _ refl refl, on _ refl refl))))))))))

@@ -19,7 +19,7 @@ use Rattle.ins2651_rules.specs.RegisterReads.{readRegister, read}
 use Rattle.ins2651_rules.specs.RegisterWrites.{write}
 use Rattle.ins2651_rules.specs.Pinning.{setPins}
 use Rattle.ins2651_rules.specs.Ticks.{receive}
-use Rattle.ins2651_rules.specs.Runs.{Call, Reset, Read, Write, SetPins, Transmit, Receive, Outputs, next, said}
+use Rattle.ins2651_rules.specs.Runs.{byCall, otherwise, atRead, Call, Reset, Read, Write, SetPins, Transmit, Receive, Outputs, next, said}
 use Rattle.ins2651_rules.specs.Rows.{refusal, addressAbove3, noLevel, noStop, synchronous, notOperating}
 
 -- == the rows ==
@@ -57,8 +57,8 @@ level-rows : (levels : Bool) → Exactly (cond levels 0 2) false (not levels) fa
 level-rows true = record { address = refl; level = refl; stop = refl; factor = refl; command = refl; most = omega arith }
 level-rows false = record { address = refl; level = refl; stop = refl; factor = refl; command = refl; most = omega arith }
 
-none : Exactly 0 false false false false false
-none = record { address = refl; level = refl; stop = refl; factor = refl; command = refl; most = omega arith }
+no-number : Exactly 0 false false false false false
+no-number = record { address = refl; level = refl; stop = refl; factor = refl; command = refl; most = omega arith }
 
 apart : (a b : Bool) → (a ≡ true → b ≡ true → ⊥) → (a && b) ≡ false
 apart true true h = absurd (h refl refl)
@@ -67,7 +67,7 @@ apart false b h = refl
 
 pub given-exactly : (d : Device) (c : Call) → Exactly (refusal d c) (addressAbove3 c) (noLevel c) (noStop d c) (synchronous d c) (notOperating c)
 unfolding writeRefusal
-given-exactly d Reset = none
+given-exactly d Reset = no-number
 given-exactly d (Read address) = read-rows (ltb 3 address)
 given-exactly d (Write address v) =
     write-rows (ltb 3 address) (eqb address 2) (eqb address 3) (eqb (settled d .registers .modes) 0) (eqb (v % 4) 0) (eqb (v / 64) 0) (ltb v 64)
@@ -75,9 +75,9 @@ given-exactly d (Write address v) =
     (apart (ltb 3 address) (eqb address 3) (λ p q. omega (arith, ltb-true 3 address p, eqb-true address 3 q)))
     (apart (eqb address 2) (eqb address 3) (λ p q. omega (arith, eqb-true address 2 p, eqb-true address 3 q)))
 given-exactly d (SetPins dsr dcd cts) = level-rows (leb dsr 1 && leb dcd 1 && leb cts 1)
-given-exactly d Transmit = none
+given-exactly d Transmit = no-number
 given-exactly d (Receive x) = level-rows (leb x 1)
-given-exactly d Outputs = none
+given-exactly d Outputs = no-number
 
 -- == a read or a write that is not refused ==
 
@@ -132,13 +132,7 @@ answers-refusal d Outputs = refl
 
 -- a refused read gives 0, no other refused call gives anything
 abbrev pub nothingGiven : Call → List ℕ
-nothingGiven Reset = []
-nothingGiven (Read address) = 0 ∷ []
-nothingGiven (Write address v) = []
-nothingGiven (SetPins dsr dcd cts) = []
-nothingGiven Transmit = []
-nothingGiven (Receive x) = []
-nothingGiven Outputs = []
+nothingGiven c = byCall (atRead (λ address. 0 ∷ []) (otherwise [])) c
 
 pub record Unchanged (d : Device) (c : Call) : Type 0 where
   pub device : next d c ≡ d

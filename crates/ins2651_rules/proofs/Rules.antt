@@ -15,7 +15,7 @@ use Rattle.link_rules.proofs.Halves.{transmit-idle, receive-off}
 use Rattle.ins2651_rules.specs.declared.Device.{Device}
 use Rattle.ins2651_rules.specs.declared.Answer.{Answer}
 use Rattle.ins2651_rules.specs.Modes.{has, formatOf, sendFormat, receiveFormat, receiveEnable}
-use Rattle.ins2651_rules.specs.Conditions.{modeSet, sending, breaking, receiving}
+use Rattle.ins2651_rules.specs.Conditions.{modeSet, mayStart, breakOn, listening}
 use Rattle.ins2651_rules.specs.Ranges.{inRange, settled}
 use Rattle.ins2651_rules.specs.Refusals.{commandRefusal, writeRefusal}
 use Rattle.ins2651_rules.specs.RegisterReads.{readRegister}
@@ -48,10 +48,10 @@ last-off true = refl
 last-off false = refl
 
 -- while mode 1 has never been accepted, neither direction starts
-pub unset-sends-nothing : (d : Device) → modeSet d ≡ false → sending d ≡ false
+pub unset-sends-nothing : (d : Device) → modeSet d ≡ false → mayStart d ≡ false
 unset-sends-nothing d e = ap (λ (b : Bool). has 1 (d .registers .command) && eqb (d .pins .cts) 0 && b) e ∙ last-off (has 1 (d .registers .command) && eqb (d .pins .cts) 0)
 
-pub unset-hears-nothing : (d : Device) → modeSet d ≡ false → receiving d ≡ false
+pub unset-hears-nothing : (d : Device) → modeSet d ≡ false → listening d ≡ false
 unset-hears-nothing d e = ap (λ (b : Bool). has 4 (d .registers .command) && eqb (d .pins .dcd) 0 && b) e ∙ last-off (has 4 (d .registers .command) && eqb (d .pins .dcd) 0)
 
 pub record Marks (d : Device) : Type 0 where
@@ -59,16 +59,16 @@ pub record Marks (d : Device) : Type 0 where
   pub sender : next d Transmit .sender ≡ withGuard (d .sender) (d .sender .guard - 1)
 
 -- where nothing may start and no frame is under way, 1 is sent and a guard above 0 falls by one
-pub nothing-starts : (d : Device) → inRange d ≡ true → sending d ≡ false → on (d .sender .frame .place) ≡ false → Marks d
+pub nothing-starts : (d : Device) → inRange d ≡ true → mayStart d ≡ false → on (d .sender .frame .place) ≡ false → Marks d
 unfolding transmit transmitTick
 nothing-starts d h s t =
-    let e : sent (settled d) ≡ markTick (d .sender) = ap sent (settled-is d h) ∙ transmit-idle (d .sender) (sending d) (breaking d) (sendFormat (d .registers)) t s in
+    let e : sent (settled d) ≡ markTick (d .sender) = ap sent (settled-is d h) ∙ transmit-idle (d .sender) (mayStart d) (breakOn d) (sendFormat (d .registers)) t s in
     record { level = ap (λ (o : Sent). bit (o .level)) e; sender = ap (λ (o : Sent). o .half) e }
 
 -- == what drops a character ==
 
 -- a receive tick while receive is off, DCD high or mode unset: RHR stays
-pub off-tick-drops : (d : Device) (x : ℕ) → inRange d ≡ true → receiving d ≡ false → refusal d (Receive x) ≡ 0 → next d (Receive x) .receiver ≡ dropped (d .receiver)
+pub off-tick-drops : (d : Device) (x : ℕ) → inRange d ≡ true → listening d ≡ false → refusal d (Receive x) ≡ 0 → next d (Receive x) .receiver ≡ dropped (d .receiver)
 unfolding receiveTick
 off-tick-drops d x h r n =
     ap (λ (e : Device). e .receiver) (does-receive d h x n)

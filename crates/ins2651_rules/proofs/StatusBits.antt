@@ -10,7 +10,7 @@ use Rattle.line_rules.proofs.Bits.{is-one, at-most-one}
 use Rattle.ins2651_rules.specs.declared.Device.{Device}
 use Rattle.ins2651_rules.specs.declared.Answer.{Answer}
 use Rattle.ins2651_rules.specs.Modes.{has}
-use Rattle.ins2651_rules.specs.Conditions.{dataSetReady, carrier, marked, unread, mayWrite}
+use Rattle.ins2651_rules.specs.Conditions.{dataSetReady, carrier, eitherMark, unread, mayWrite}
 use Rattle.ins2651_rules.specs.Status.{weigh, statusByte, outputsOf, outputs}
 use Rattle.ins2651_rules.specs.Ranges.{settled}
 use Rattle.ins2651_rules.specs.RegisterReads.{readRegister, read}
@@ -60,9 +60,9 @@ module _ (a b c d e f g h : Bool) where
 
 -- bit 7 is DSR low, 6 DCD low, 5 framing, 4 overrun, 3 parity, 2 a mark, 1 an unread character, 0 the leave to write
 pub status-bits : (d : Device)
-    → Bits (statusByte d) (dataSetReady d) (carrier d) (on (d .flags .framing)) (on (d .flags .overrun)) (on (d .flags .parity)) (marked d) (unread d) (mayWrite d)
+    → Bits (statusByte d) (dataSetReady d) (carrier d) (on (d .flags .framing)) (on (d .flags .overrun)) (on (d .flags .parity)) (eitherMark d) (unread d) (mayWrite d)
 unfolding statusByte
-status-bits d = bits (dataSetReady d) (carrier d) (on (d .flags .framing)) (on (d .flags .overrun)) (on (d .flags .parity)) (marked d) (unread d) (mayWrite d)
+status-bits d = bits (dataSetReady d) (carrier d) (on (d .flags .framing)) (on (d .flags .overrun)) (on (d .flags .parity)) (eitherMark d) (unread d) (mayWrite d)
 
 -- each output is the complement of the bit that a read shows
 pub record Complements (d : Device) : Type 0 where

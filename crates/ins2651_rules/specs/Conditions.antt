@@ -1,4 +1,5 @@
--- The conditions that ticks, status and outputs go by. None of them reads a pin or a command bit but through these.
+-- The conditions that the ticks and status bits 7, 6 and 2 to 0 go by: each reads its pin, mark or command bit here and nowhere else.
+-- (Outputs DTR and RTS are command bits by themselves; a pin call compares levels.)
 -- Assumes nothing.
 use mathlib.Core.Bool.{Bool, _&&_, _||_}
 use lib.Dec.{eqb}
@@ -19,19 +20,21 @@ clearToSend d = eqb (d .pins .cts) 0
 abbrev pub modeSet : Device → Bool
 modeSet d = on (d .registers .accepted)
 
-abbrev pub transmitting : Device → Bool
-transmitting d = transmitEnable (d .registers .command)
+-- command bit 0
+abbrev pub transmitEnabled : Device → Bool
+transmitEnabled d = transmitEnable (d .registers .command)
 
 -- a frame or a break may start
-abbrev pub sending : Device → Bool
-sending d = transmitting d && clearToSend d && modeSet d
+abbrev pub mayStart : Device → Bool
+mayStart d = transmitEnabled d && clearToSend d && modeSet d
 
-abbrev pub breaking : Device → Bool
-breaking d = forceBreak (d .registers .command)
+-- command bit 3, whether or not a break may start
+abbrev pub breakOn : Device → Bool
+breakOn d = forceBreak (d .registers .command)
 
 -- a receive tick looks at its sample
-abbrev pub receiving : Device → Bool
-receiving d = receiveEnable (d .registers .command) && carrier d && modeSet d
+abbrev pub listening : Device → Bool
+listening d = receiveEnable (d .registers .command) && carrier d && modeSet d
 
 -- RHR holds an unread character
 abbrev pub unread : Device → Bool
@@ -43,8 +46,8 @@ vacant d = eqb (d .sender .full) 0
 
 -- the control program may write
 abbrev pub mayWrite : Device → Bool
-mayWrite d = transmitting d && vacant d
+mayWrite d = transmitEnabled d && vacant d
 
--- the empty-mark or the change-mark
-abbrev pub marked : Device → Bool
-marked d = on (d .flags .empty) || on (d .flags .change)
+-- status bit 2: the empty-mark or the change-mark
+abbrev pub eitherMark : Device → Bool
+eitherMark d = on (d .flags .empty) || on (d .flags .change)

@@ -15,38 +15,20 @@ use Rattle.ins2651_rules.specs.Status.{weigh}
 use Rattle.ins2651_rules.specs.Ranges.{settled}
 use Rattle.ins2651_rules.specs.Refusals.{commandRefusal}
 use Rattle.ins2651_rules.specs.Ticks.{sent, received}
-use Rattle.ins2651_rules.specs.Runs.{Call, Reset, Read, Write, SetPins, Transmit, Receive, Outputs, next}
+use Rattle.ins2651_rules.specs.Runs.{Call, next, byCall, otherwise, atReset, atRead, atPins, atTransmit, atReceive}
 use Rattle.ins2651_rules.specs.Rows.{refusal, writes}
 
 -- == which call it was ==
 
 abbrev pub resets : Call → Bool
-resets Reset = true
-resets (Read address) = false
-resets (Write address v) = false
-resets (SetPins dsr dcd cts) = false
-resets Transmit = false
-resets (Receive x) = false
-resets Outputs = false
+resets c = byCall (atReset true (otherwise false)) c
 
 abbrev pub reads : ℕ → Call → Bool
-reads a Reset = false
-reads a (Read address) = eqb address a
-reads a (Write address v) = false
-reads a (SetPins dsr dcd cts) = false
-reads a Transmit = false
-reads a (Receive x) = false
-reads a Outputs = false
+reads a c = byCall (atRead (λ address. eqb address a) (otherwise false)) c
 
 -- a pin call whose DSR and DCD are so
 abbrev pub pins : (ℕ → ℕ → Bool) → Call → Bool
-pins p Reset = false
-pins p (Read address) = false
-pins p (Write address v) = false
-pins p (SetPins dsr dcd cts) = p dsr dcd
-pins p Transmit = false
-pins p (Receive x) = false
-pins p Outputs = false
+pins p c = byCall (atPins (λ dsr dcd cts. p dsr dcd) (otherwise false)) c
 
 -- a write of THR
 abbrev pub writesHolding : Call → Bool
@@ -96,13 +78,11 @@ abbrev pub plainly : Call → Happened
 plainly c = record { call = c; heard = Nothing; began = false; drained = false }
 
 abbrev pub happened : Device → Call → Happened
-happened d Reset = plainly Reset
-happened d (Read address) = plainly (Read address)
-happened d (Write address v) = plainly (Write address v)
-happened d (SetPins dsr dcd cts) = plainly (SetPins dsr dcd cts)
-happened d Transmit = record { call = Transmit; heard = Nothing; began = sent (settled d) .began; drained = sent (settled d) .drained }
-happened d (Receive x) = record { call = Receive x; heard = received (settled d) (on x) .heard; began = false; drained = false }
-happened d Outputs = plainly Outputs
+happened d c =
+    byCall
+    (atTransmit (record { call = c; heard = Nothing; began = sent (settled d) .began; drained = sent (settled d) .drained })
+    (atReceive (λ x. record { call = c; heard = received (settled d) (on x) .heard; began = false; drained = false })
+    (otherwise (plainly c)))) c
 
 -- after what happened before, es; a refused call leaves no trace
 abbrev pub history : Device → List Call → List Happened → List Happened

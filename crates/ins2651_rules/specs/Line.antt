@@ -11,32 +11,26 @@ use Rattle.line_rules.specs.Arrived.{Arrived}
 use Rattle.line_rules.specs.Receiving.{tell}
 use Rattle.ins2651_rules.specs.declared.Device.{Device}
 use Rattle.ins2651_rules.specs.Modes.{receiveFormat}
-use Rattle.ins2651_rules.specs.Conditions.{receiving}
+use Rattle.ins2651_rules.specs.Conditions.{listening}
 use Rattle.ins2651_rules.specs.Ranges.{settled}
 use Rattle.ins2651_rules.specs.Ticks.{transmit, received}
-use Rattle.ins2651_rules.specs.Runs.{Call, Reset, Read, Write, SetPins, Transmit, Receive, Outputs, next}
+use Rattle.ins2651_rules.specs.Runs.{Call, next, byCall, otherwise, atTransmit, atReceive}
 
 -- == sent ==
 
 -- the first of two where the call is a transmit tick
-abbrev pub atTransmit : {A : Type 0} → Call → A → A → A
-atTransmit Reset a b = b
-atTransmit (Read address) a b = b
-atTransmit (Write address v) a b = b
-atTransmit (SetPins dsr dcd cts) a b = b
-atTransmit Transmit a b = a
-atTransmit (Receive x) a b = b
-atTransmit Outputs a b = b
+abbrev pub ifTransmit : {A : Type 0} → Call → A → A → A
+ifTransmit c a b = byCall (atTransmit a (otherwise b)) c
 
 -- how many transmit ticks a list has
 abbrev pub transmits : List Call → ℕ
 transmits [] = 0
-transmits (c ∷ cs) = atTransmit c (suc (transmits cs)) (transmits cs)
+transmits (c ∷ cs) = ifTransmit c (suc (transmits cs)) (transmits cs)
 
 -- the levels that they send
 abbrev pub levelsSent : Device → List Call → List ℕ
 levelsSent d [] = []
-levelsSent d (c ∷ cs) = atTransmit c (transmit d .level ∷ levelsSent (next d c) cs) (levelsSent (next d c) cs)
+levelsSent d (c ∷ cs) = ifTransmit c (transmit d .level ∷ levelsSent (next d c) cs) (levelsSent (next d c) cs)
 
 -- no frame is under way and no guard stands
 abbrev pub senderFree : Device → Bool
@@ -45,24 +39,18 @@ senderFree d = eqb (d .sender .frame .place) 0 && eqb (d .sender .guard) 0
 -- == taken ==
 
 -- what an accepted receive tick with its sample gives, and what any other call does
-abbrev pub atSample : {A : Type 0} → Call → (Bool → A) → A → A
-atSample Reset f b = b
-atSample (Read address) f b = b
-atSample (Write address v) f b = b
-atSample (SetPins dsr dcd cts) f b = b
-atSample Transmit f b = b
-atSample (Receive x) f b = cond (leb x 1) (f (on x)) b
-atSample Outputs f b = b
+abbrev pub ifSample : {A : Type 0} → Call → (Bool → A) → A → A
+ifSample c f b = byCall (atReceive (λ x. cond (leb x 1) (f (on x)) b) (otherwise b)) c
 
 -- the levels given to the accepted receive ticks
 abbrev pub samples : List Call → List Bool
 samples [] = []
-samples (c ∷ cs) = atSample c (λ (x : Bool). x ∷ samples cs) (samples cs)
+samples (c ∷ cs) = ifSample c (λ (x : Bool). x ∷ samples cs) (samples cs)
 
 -- what arrives, after k samples that were before; samples count from 1
 abbrev pub arrivedIn : Device → ℕ → List Call → List Arrived
 arrivedIn d k [] = []
-arrivedIn d k (c ∷ cs) = atSample c (λ (x : Bool). tell (suc k) (received (settled d) x .heard) (arrivedIn (next d c) (suc k) cs)) (arrivedIn (next d c) k cs)
+arrivedIn d k (c ∷ cs) = ifSample c (λ (x : Bool). tell (suc k) (received (settled d) x .heard) (arrivedIn (next d c) (suc k) cs)) (arrivedIn (next d c) k cs)
 
 -- the value of the last arrival, or v where there is none
 abbrev pub lastValue : ℕ → List Arrived → ℕ
@@ -71,7 +59,7 @@ lastValue v (a ∷ as') = lastValue (a .arrival .value) as'
 
 -- receive is on, DCD low, a mode set, and the receiver's format is f
 pub record Listens (f : Format) (d : Device) : Type 0 where
-  pub live : receiving d ≡ true
+  pub live : listening d ≡ true
   pub format : receiveFormat (d .registers) ≡ f
 
 -- before, between and after the calls of a run

@@ -6,7 +6,7 @@ use lib.Dec.{eqb}
 use Rattle.link_rules.specs.Parts.{emptied}
 use Rattle.ins2651_rules.specs.declared.Device.{Device}
 use Rattle.ins2651_rules.specs.declared.Answer.{Answer}
-use Rattle.ins2651_rules.specs.Shape.{withRegisters, withFlags, withReceiver, withChange, pointing, answered, refusedRead}
+use Rattle.ins2651_rules.specs.Shape.{withRegisters, withFlags, withReceiver, withChange, toMode1, toMode2, toSyn1, answered, refusedRead}
 use Rattle.ins2651_rules.specs.Ranges.{settled}
 use Rattle.ins2651_rules.specs.Refusals.{readRefusal}
 use Rattle.ins2651_rules.specs.Status.{statusByte}
@@ -23,12 +23,12 @@ readStatus d = answered (statusByte d) (withFlags d (withChange (d .flags) 0))
 abbrev pub readMode : Device → Answer
 readMode d =
     cond (eqb (d .registers .modes) 0)
-    (answered (d .registers .mode1) (withRegisters d (pointing (d .registers) 1 (d .registers .syns))))
-    (answered (d .registers .mode2) (withRegisters d (pointing (d .registers) 0 (d .registers .syns))))
+    (answered (d .registers .mode1) (withRegisters d (toMode2 (d .registers))))
+    (answered (d .registers .mode2) (withRegisters d (toMode1 (d .registers))))
 
 -- a command read puts both pointers back
 abbrev pub readCommand : Device → Answer
-readCommand d = answered (d .registers .command) (withRegisters d (pointing (d .registers) 0 0))
+readCommand d = answered (d .registers .command) (withRegisters d (toSyn1 (toMode1 (d .registers))))
 
 unfoldable pub readRegister : Device → ℕ → Answer
 readRegister d address =

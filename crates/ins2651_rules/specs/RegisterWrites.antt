@@ -9,7 +9,7 @@ use Rattle.ins2651_rules.specs.declared.Registers.{Registers}
 use Rattle.ins2651_rules.specs.declared.Flags.{Flags}
 use Rattle.ins2651_rules.specs.declared.Device.{Device}
 use Rattle.ins2651_rules.specs.declared.Outcome.{Outcome}
-use Rattle.ins2651_rules.specs.Shape.{withParts, withRegisters, withSender, withModes, withSyns, withCommand, withErrors, withEmpty, done, refused}
+use Rattle.ins2651_rules.specs.Shape.{withParts, withRegisters, withSender, withMode1, withMode2, accepting, toMode1, toMode2, withSyn1, withSyn2, withDle, toSyn1, toSyn2, toDle, withCommand, withErrors, withEmpty, done, refused}
 use Rattle.ins2651_rules.specs.Modes.{transmitEnable, receiveEnable, commandClears}
 use Rattle.ins2651_rules.specs.Ranges.{settled}
 use Rattle.ins2651_rules.specs.Refusals.{writeRefusal}
@@ -18,12 +18,12 @@ use Rattle.ins2651_rules.specs.Refusals.{writeRefusal}
 abbrev pub writeHolding : Device → ℕ → Device
 writeHolding d v = withSender d (loaded (d .sender) v) (withEmpty (d .flags) 0)
 
--- the SYN pointer moves at each write, and wraps
+-- SYN1, SYN2, DLE in turn: the pointer moves at each write, and wraps
 abbrev pub synsWritten : Registers → ℕ → Registers
 synsWritten r v =
-    cond (eqb (r .syns) 0) (withSyns r v (r .syn2) (r .dle) 1)
-    (cond (eqb (r .syns) 1) (withSyns r (r .syn1) v (r .dle) 2)
-    (withSyns r (r .syn1) (r .syn2) v 0))
+    cond (eqb (r .syns) 0) (toSyn2 (withSyn1 r v))
+    (cond (eqb (r .syns) 1) (toDle (withSyn2 r v))
+    (toSyn1 (withDle r v)))
 
 abbrev pub writeSyn : Device → ℕ → Device
 writeSyn d v = withRegisters d (synsWritten (d .registers) v)
@@ -32,8 +32,8 @@ writeSyn d v = withRegisters d (synsWritten (d .registers) v)
 abbrev pub modesWritten : Registers → ℕ → Registers
 modesWritten r v =
     cond (eqb (r .modes) 0)
-    (withModes r v (r .mode2) 1 1)
-    (withModes r (r .mode1) v (r .accepted) 0)
+    (toMode2 (accepting (withMode1 r v)))
+    (toMode1 (withMode2 r v))
 
 -- a frame and a character under way keep the mode that they began with
 abbrev pub writeMode : Device → ℕ → Device

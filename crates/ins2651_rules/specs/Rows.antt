@@ -6,47 +6,23 @@ use lib.Dec.{ltb, leb, eqb}
 use Rattle.ins2651_rules.specs.declared.Device.{Device}
 use Rattle.ins2651_rules.specs.Ranges.{settled}
 use Rattle.ins2651_rules.specs.Refusals.{readRefusal, writeRefusal, pinsRefusal, levelRefusal}
-use Rattle.ins2651_rules.specs.Runs.{Call, Reset, Read, Write, SetPins, Transmit, Receive, Outputs}
+use Rattle.ins2651_rules.specs.Runs.{Call, byCall, otherwise, atRead, atWrite, atPins, atReceive}
 
--- the number that a call is given; 0 is done. A reset and a transmit tick are never refused
+-- the number that a call is given; 0 is done. A reset, a transmit tick and a look at the outputs are never refused
 abbrev pub refusal : Device → Call → ℕ
-refusal d Reset = 0
-refusal d (Read address) = readRefusal address
-refusal d (Write address v) = writeRefusal (settled d .registers) address v
-refusal d (SetPins dsr dcd cts) = pinsRefusal dsr dcd cts
-refusal d Transmit = 0
-refusal d (Receive x) = levelRefusal x
-refusal d Outputs = 0
+refusal d c = byCall (atRead readRefusal (atWrite (writeRefusal (settled d .registers)) (atPins pinsRefusal (atReceive levelRefusal (otherwise 0))))) c
 
--- the register address, and whether it is above 3
+-- a register address above 3
 abbrev pub addressAbove3 : Call → Bool
-addressAbove3 Reset = false
-addressAbove3 (Read address) = ltb 3 address
-addressAbove3 (Write address v) = ltb 3 address
-addressAbove3 (SetPins dsr dcd cts) = false
-addressAbove3 Transmit = false
-addressAbove3 (Receive x) = false
-addressAbove3 Outputs = false
+addressAbove3 c = byCall (atRead (λ address. ltb 3 address) (atWrite (λ address v. ltb 3 address) (otherwise false))) c
 
 -- a pin or line level neither 0 nor 1
 abbrev pub noLevel : Call → Bool
-noLevel Reset = false
-noLevel (Read address) = false
-noLevel (Write address v) = false
-noLevel (SetPins dsr dcd cts) = not (leb dsr 1 && leb dcd 1 && leb cts 1)
-noLevel Transmit = false
-noLevel (Receive x) = not (leb x 1)
-noLevel Outputs = false
+noLevel c = byCall (atPins (λ dsr dcd cts. not (leb dsr 1 && leb dcd 1 && leb cts 1)) (atReceive (λ x. not (leb x 1)) (otherwise false))) c
 
 -- a write of an address whose value is so
 abbrev pub writes : (ℕ → ℕ → Bool) → Call → Bool
-writes p Reset = false
-writes p (Read address) = false
-writes p (Write address v) = p address v
-writes p (SetPins dsr dcd cts) = false
-writes p Transmit = false
-writes p (Receive x) = false
-writes p Outputs = false
+writes p c = byCall (atWrite p (otherwise false)) c
 
 -- mode register 1 is the one that address 2 points at
 abbrev pub atMode1 : Device → Bool

@@ -12,7 +12,7 @@ use Rattle.ins2651_rules.specs.RegisterWrites.{write}
 use Rattle.ins2651_rules.specs.Pinning.{setPins}
 use Rattle.ins2651_rules.specs.Ticks.{transmit, receive}
 
--- one for each public call of the chip
+-- the calls of a bench. (`in_range`, `settle` and the two ticks of a device settled before are public for a run of ticks, and no calls of a bench)
 pub data Call : Type 0 where
   Reset : Call
   Read : ℕ → Call
@@ -21,6 +21,55 @@ pub data Call : Type 0 where
   Transmit : Call
   Receive : ℕ → Call
   Outputs : Call
+
+-- == a call by its kind ==
+
+-- what each kind of call gives
+pub record Cases (A : Type 0) : Type 0 where
+  pub reset : A
+  pub read : ℕ → A
+  pub write : ℕ → ℕ → A
+  pub pins : ℕ → ℕ → ℕ → A
+  pub transmit : A
+  pub receive : ℕ → A
+  pub outputs : A
+
+abbrev pub byCall : {A : Type 0} → Cases A → Call → A
+byCall k Reset = k .reset
+byCall k (Read address) = k .read address
+byCall k (Write address v) = k .write address v
+byCall k (SetPins dsr dcd cts) = k .pins dsr dcd cts
+byCall k Transmit = k .transmit
+byCall k (Receive x) = k .receive x
+byCall k Outputs = k .outputs
+
+-- one for every call ..
+abbrev pub otherwise : {A : Type 0} → A → Cases A
+otherwise b = record { reset = b; read = λ address. b; write = λ address v. b; pins = λ dsr dcd cts. b; transmit = b; receive = λ x. b; outputs = b }
+
+-- .. but for this kind
+abbrev pub atReset : {A : Type 0} → A → Cases A → Cases A
+atReset a k = record { reset = a; read = k .read; write = k .write; pins = k .pins; transmit = k .transmit; receive = k .receive; outputs = k .outputs }
+
+abbrev pub atRead : {A : Type 0} → (ℕ → A) → Cases A → Cases A
+atRead a k = record { reset = k .reset; read = a; write = k .write; pins = k .pins; transmit = k .transmit; receive = k .receive; outputs = k .outputs }
+
+abbrev pub atWrite : {A : Type 0} → (ℕ → ℕ → A) → Cases A → Cases A
+atWrite a k = record { reset = k .reset; read = k .read; write = a; pins = k .pins; transmit = k .transmit; receive = k .receive; outputs = k .outputs }
+
+abbrev pub atPins : {A : Type 0} → (ℕ → ℕ → ℕ → A) → Cases A → Cases A
+atPins a k = record { reset = k .reset; read = k .read; write = k .write; pins = a; transmit = k .transmit; receive = k .receive; outputs = k .outputs }
+
+abbrev pub atTransmit : {A : Type 0} → A → Cases A → Cases A
+atTransmit a k = record { reset = k .reset; read = k .read; write = k .write; pins = k .pins; transmit = a; receive = k .receive; outputs = k .outputs }
+
+abbrev pub atReceive : {A : Type 0} → (ℕ → A) → Cases A → Cases A
+atReceive a k = record { reset = k .reset; read = k .read; write = k .write; pins = k .pins; transmit = k .transmit; receive = a; outputs = k .outputs }
+
+abbrev pub atOutputs : {A : Type 0} → A → Cases A → Cases A
+atOutputs a k = record { reset = k .reset; read = k .read; write = k .write; pins = k .pins; transmit = k .transmit; receive = k .receive; outputs = a }
+
+-- == runs ==
 
 -- the device after a call; outputs changes nothing
 abbrev pub next : Device → Call → Device

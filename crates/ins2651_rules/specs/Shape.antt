@@ -37,21 +37,44 @@ withHalves d s h = withParts d (d .registers) (d .pins) s h (d .flags)
 
 -- == registers ==
 
-abbrev pub pointing : Registers → ℕ → ℕ → Registers
-pointing r m s =
-    record { mode1 = r .mode1; mode2 = r .mode2; accepted = r .accepted; command = r .command; syn1 = r .syn1; syn2 = r .syn2; dle = r .dle; modes = m; syns = s }
+abbrev pub withMode1 : Registers → ℕ → Registers
+withMode1 r v = record { mode1 = v; mode2 = r .mode2; accepted = r .accepted; command = r .command; syn1 = r .syn1; syn2 = r .syn2; dle = r .dle; modes = r .modes; syns = r .syns }
 
-abbrev pub withModes : Registers → ℕ → ℕ → ℕ → ℕ → Registers
-withModes r m1 m2 a p =
-    record { mode1 = m1; mode2 = m2; accepted = a; command = r .command; syn1 = r .syn1; syn2 = r .syn2; dle = r .dle; modes = p; syns = r .syns }
-
-abbrev pub withSyns : Registers → ℕ → ℕ → ℕ → ℕ → Registers
-withSyns r a b c p =
-    record { mode1 = r .mode1; mode2 = r .mode2; accepted = r .accepted; command = r .command; syn1 = a; syn2 = b; dle = c; modes = r .modes; syns = p }
+abbrev pub withMode2 : Registers → ℕ → Registers
+withMode2 r v = record { mode1 = r .mode1; mode2 = v; accepted = r .accepted; command = r .command; syn1 = r .syn1; syn2 = r .syn2; dle = r .dle; modes = r .modes; syns = r .syns }
 
 abbrev pub withCommand : Registers → ℕ → Registers
-withCommand r v =
-    record { mode1 = r .mode1; mode2 = r .mode2; accepted = r .accepted; command = v; syn1 = r .syn1; syn2 = r .syn2; dle = r .dle; modes = r .modes; syns = r .syns }
+withCommand r v = record { mode1 = r .mode1; mode2 = r .mode2; accepted = r .accepted; command = v; syn1 = r .syn1; syn2 = r .syn2; dle = r .dle; modes = r .modes; syns = r .syns }
+
+abbrev pub withSyn1 : Registers → ℕ → Registers
+withSyn1 r v = record { mode1 = r .mode1; mode2 = r .mode2; accepted = r .accepted; command = r .command; syn1 = v; syn2 = r .syn2; dle = r .dle; modes = r .modes; syns = r .syns }
+
+abbrev pub withSyn2 : Registers → ℕ → Registers
+withSyn2 r v = record { mode1 = r .mode1; mode2 = r .mode2; accepted = r .accepted; command = r .command; syn1 = r .syn1; syn2 = v; dle = r .dle; modes = r .modes; syns = r .syns }
+
+abbrev pub withDle : Registers → ℕ → Registers
+withDle r v = record { mode1 = r .mode1; mode2 = r .mode2; accepted = r .accepted; command = r .command; syn1 = r .syn1; syn2 = r .syn2; dle = v; modes = r .modes; syns = r .syns }
+
+-- a mode 1 was accepted
+abbrev pub accepting : Registers → Registers
+accepting r = record { mode1 = r .mode1; mode2 = r .mode2; accepted = 1; command = r .command; syn1 = r .syn1; syn2 = r .syn2; dle = r .dle; modes = r .modes; syns = r .syns }
+
+-- the mode pointer is put to mode 1, or to mode 2 ..
+abbrev pub toMode1 : Registers → Registers
+toMode1 r = record { mode1 = r .mode1; mode2 = r .mode2; accepted = r .accepted; command = r .command; syn1 = r .syn1; syn2 = r .syn2; dle = r .dle; modes = 0; syns = r .syns }
+
+abbrev pub toMode2 : Registers → Registers
+toMode2 r = record { mode1 = r .mode1; mode2 = r .mode2; accepted = r .accepted; command = r .command; syn1 = r .syn1; syn2 = r .syn2; dle = r .dle; modes = 1; syns = r .syns }
+
+-- .. and the SYN pointer to SYN1, SYN2 or DLE
+abbrev pub toSyn1 : Registers → Registers
+toSyn1 r = record { mode1 = r .mode1; mode2 = r .mode2; accepted = r .accepted; command = r .command; syn1 = r .syn1; syn2 = r .syn2; dle = r .dle; modes = r .modes; syns = 0 }
+
+abbrev pub toSyn2 : Registers → Registers
+toSyn2 r = record { mode1 = r .mode1; mode2 = r .mode2; accepted = r .accepted; command = r .command; syn1 = r .syn1; syn2 = r .syn2; dle = r .dle; modes = r .modes; syns = 1 }
+
+abbrev pub toDle : Registers → Registers
+toDle r = record { mode1 = r .mode1; mode2 = r .mode2; accepted = r .accepted; command = r .command; syn1 = r .syn1; syn2 = r .syn2; dle = r .dle; modes = r .modes; syns = 2 }
 
 -- == pins ==
 

@@ -7,7 +7,7 @@ use Rattle.ins2651_rules.specs.declared.Device.{Device}
 use Rattle.ins2651_rules.specs.declared.Flags.{Flags}
 use Rattle.ins2651_rules.specs.declared.OutputPins.{OutputPins}
 use Rattle.ins2651_rules.specs.Modes.{dataTerminalReady, requestToSend}
-use Rattle.ins2651_rules.specs.Conditions.{dataSetReady, carrier, marked, unread, mayWrite}
+use Rattle.ins2651_rules.specs.Conditions.{dataSetReady, carrier, eitherMark, unread, mayWrite}
 use Rattle.ins2651_rules.specs.Ranges.{settled}
 
 abbrev pub weigh : Bool → ℕ → ℕ
@@ -23,7 +23,7 @@ errorBits f = weigh (on (f .framing)) 32 + weigh (on (f .overrun)) 16 + weigh (o
 
 -- 2 = empty-mark or change-mark; 1 = RHR holds an unread character; 0 = transmit enabled and THR empty
 abbrev pub readyBits : Device → ℕ
-readyBits d = weigh (marked d) 4 + weigh (unread d) 2 + weigh (mayWrite d) 1
+readyBits d = weigh (eitherMark d) 4 + weigh (unread d) 2 + weigh (mayWrite d) 1
 
 unfoldable pub statusByte : Device → ℕ
 statusByte d = modemBits d + errorBits (d .flags) + readyBits d
@@ -34,7 +34,7 @@ outputsOf d =
     record {
       txrdy = bit (not (mayWrite d));
       rxrdy = bit (not (unread d));
-      txemt = bit (not (marked d));
+      txemt = bit (not (eitherMark d));
       dtr = bit (not (dataTerminalReady (d .registers .command)));
       rts = bit (not (requestToSend (d .registers .command)));
     }

@@ -16,7 +16,7 @@ use Rattle.ins2651_rules.specs.declared.Outcome.{Outcome}
 use Rattle.ins2651_rules.specs.declared.Ticked.{Ticked}
 use Rattle.ins2651_rules.specs.Shape.{withSender, withReceiver, withErrors, withEmpty, done, refused, ticked}
 use Rattle.ins2651_rules.specs.Modes.{sendFormat, receiveFormat}
-use Rattle.ins2651_rules.specs.Conditions.{transmitting, sending, breaking, receiving}
+use Rattle.ins2651_rules.specs.Conditions.{transmitEnabled, mayStart, breakOn, listening}
 use Rattle.ins2651_rules.specs.Pinning.{orSet}
 use Rattle.ins2651_rules.specs.Ranges.{settled}
 use Rattle.ins2651_rules.specs.Refusals.{levelRefusal}
@@ -25,11 +25,11 @@ use Rattle.ins2651_rules.specs.Refusals.{levelRefusal}
 
 -- the sending half's tick
 abbrev pub sent : Device → Sent
-sent d = link-transmitting.transmit (d .sender) (sending d) (breaking d) (sendFormat (d .registers))
+sent d = link-transmitting.transmit (d .sender) (mayStart d) (breakOn d) (sendFormat (d .registers))
 
 -- the empty-mark is set where the tick ends a frame with THR empty and transmit enabled
 abbrev pub sentBy : Device → Sent → Ticked
-sentBy d s = ticked (bit (s .level)) (withSender d (s .half) (withEmpty (d .flags) (orSet (s .drained && transmitting d) (d .flags .empty))))
+sentBy d s = ticked (bit (s .level)) (withSender d (s .half) (withEmpty (d .flags) (orSet (s .drained && transmitEnabled d) (d .flags .empty))))
 
 -- the tick of a device in range
 unfoldable pub transmitTick : Device → Ticked
@@ -43,7 +43,7 @@ transmit d = transmitTick (settled d)
 
 -- the receiving half's tick
 abbrev pub received : Device → Bool → Received
-received d x = link-hearing.receive (d .receiver) (receiving d) (receiveFormat (d .registers)) x
+received d x = link-hearing.receive (d .receiver) (listening d) (receiveFormat (d .registers)) x
 
 -- what arrives sets flags and clears none: a stop of 0, a register found unread, a wrong parity
 abbrev pub noted : Flags → Bool → Heard → Flags

@@ -15,9 +15,9 @@ use Rattle.ins2651_rules.specs.declared.Registers.{Registers}
 use Rattle.ins2651_rules.specs.declared.Pins.{Pins}
 use Rattle.ins2651_rules.specs.declared.Device.{Device}
 use Rattle.ins2651_rules.specs.declared.Answer.{Answer}
-use Rattle.ins2651_rules.specs.Shape.{withParts, withRegisters, pointing, withSyns, withEmpty, withChange}
+use Rattle.ins2651_rules.specs.Shape.{withParts, withRegisters, withEmpty, withChange}
 use Rattle.ins2651_rules.specs.Modes.{has}
-use Rattle.ins2651_rules.specs.Conditions.{transmitting, vacant}
+use Rattle.ins2651_rules.specs.Conditions.{transmitEnabled, vacant}
 use Rattle.ins2651_rules.specs.Ranges.{inRange}
 use Rattle.ins2651_rules.specs.Refusals.{writeRefusal}
 use Rattle.ins2651_rules.specs.RegisterReads.{readRegister}
@@ -28,6 +28,7 @@ use Rattle.ins2651_rules.specs.Runs.{Call, Reset, Read, Write, SetPins, Transmi
 use Rattle.ins2651_rules.specs.Rows.{refusal}
 use Rattle.ins2651_rules.proofs.Done.{does-read, does-write, does-pins}
 use Rattle.ins2651_rules.proofs.Refused.{read-address, refused-unchanged}
+use Rattle.ins2651_rules.proofs.Leaves.{withSyns}
 use Rattle.ins2651_rules.proofs.InRange.{next-in}
 use Rattle.ins2651_rules.proofs.StatusBits.{status-bits}
 use Rattle.joined_rules.specs.Bench.{statusBit, mayWrite, unread, character}
@@ -51,7 +52,7 @@ character-is d h = ap (λ (o : Answer). o .value) (does-read d h 0 refl)
 
 -- THR is empty while bit 0 is 1
 pub vacant-is : (d : Device) → inRange d ≡ true → mayWrite d ≡ true → d .sender .full ≡ 0
-vacant-is d h m = eqb-true _ _ (both (transmitting d) (vacant d) (sym (bit-is d 1 h ∙ status-bits d .bit0) ∙ m) .1)
+vacant-is d h m = eqb-true _ _ (both (transmitEnabled d) (vacant d) (sym (bit-is d 1 h ∙ status-bits d .bit0) ∙ m) .1)
 
 -- a ready device shows no flag
 pub no-flag : (s : Settings) (d : Device) → Ready s d → NoFlag d
@@ -70,7 +71,7 @@ module _ (s : Settings) (d : Device) (r : Ready s d) where
 
   -- a call k that changes SYN bytes, pointers, pins, halves and marks alone, and leaves DCD and CTS low
   kept : (k : Call) {a b c m n x y : ℕ} {p : Pins} {h : SenderHalf} {g : ReceiverHalf}
-      → next d k ≡ withParts d (pointing (withSyns (d .registers) a b c n) m n) p h g (withEmpty (withChange (d .flags) y) x)
+      → next d k ≡ withParts d (withSyns (d .registers) a b c m n) p h g (withEmpty (withChange (d .flags) y) x)
       → (p .dcd ≡ 0) × (p .cts ≡ 0) → h ≡ senderAfter k (d .sender) → g ≡ receiverAfter k (d .receiver) → Kept s d k
   kept k q l u v =
       record {

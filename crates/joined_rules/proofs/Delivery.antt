@@ -27,11 +27,11 @@ use Rattle.link_rules.specs.declared.Sent.{Sent}
 use Rattle.link_rules.specs.declared.Received.{Received}
 use Rattle.link_rules.specs.Parts.{noFrame, idleSender, loaded, emptied}
 use Rattle.link_rules.specs.Transmitting.{frameNext, transmit}
-use Rattle.link_rules.specs.Hearing.{stepped, holds, arrives, taken, receive}
+use Rattle.link_rules.specs.Hearing.{stepped, holds, arrives, afterSample, receive}
 use Rattle.link_rules.proofs.Halves.{transmit-under, length-bound, frameOf, frame-goes-on, frame-ends, Tuned, stepped-tuned, receive-is}
 use Rattle.joined_rules.specs.Bench.{Entry, Way, nothingYet, logWrite, logArrival, logRead}
 use Rattle.joined_rules.specs.Demand3
-use Rattle.joined_rules.specs.Demand3.{latest, over, Answers, Answered, none, one, Delivered, due, values, Fetched, FirstWrites}
+use Rattle.joined_rules.specs.Demand3.{latest, over, Answers, Answered, nothing, one, Delivered, due, values, Fetched, FirstWrites}
 
 -- an arrival with a wrong parity or a stop of 0
 abbrev pub faulty : Arrival → Bool
@@ -157,7 +157,7 @@ module _ {f g : Format} (fit : Fit f g) where
         → Answered f (w .came) come → Spaced (w .came) come → o .guard ≡ 0
         → Flows o r (receive r true g x) now w
     quietly o x st begun come e ws ph an sp gd =
-        subst (λ (q : Received). Flows o r q now w) (sym (receive-is g r x tuned ∙ ap (taken r g) e))
+        subst (λ (q : Received). Flows o r q now w) (sym (receive-is g r x tuned ∙ ap (afterSample r g) e))
         (record {
           flow = subst (λ (l : Way). Flow o (stepped r g st) (suc now) l) (sym (not-twice (on (r .unread)) (logArrival (suc now) (r .holding) w) w))
               (record { begun = begun; come = come; waits = ws; phase = ph; answered = an; spaced = sp; guard = gd; tuned = stepped-tuned g r st; held = held });
@@ -172,7 +172,7 @@ module _ {f g : Format} (fit : Fit f g) where
         → Answered f (record { at = suc now; value = v } ∷ w .came) come → suc now + L ≤ over L come + (1 + D) → o .guard ≡ 0
         → Flows o r (receive r true g x) now w
     arriving o x v begun come u rd e ws ph an sp gd =
-        subst (λ (q : Received). Flows o r q now w) (sym (receive-is g r x tuned ∙ ap (taken r g) e))
+        subst (λ (q : Received). Flows o r q now w) (sym (receive-is g r x tuned ∙ ap (afterSample r g) e))
         (record {
           flow = subst (λ (l : Way). Flow o (holds (stepped r g searching) v) (suc now) l)
               (sym (ap (λ (k : ℕ). cond (not (on k) && true) (logArrival (suc now) v w) w) u))
@@ -401,7 +401,7 @@ module _ {f g : Format} (fit : Fit f g) where
         come = [];
         waits = subst (λ (k : SenderHalf). Waits 0 (k .full) (k .holding) [] []) (sym e) empty;
         phase = subst (λ (k : SenderHalf). Phase 0 (k .frame) (r .state) [] []) (sym e) (subst (λ (m : Receiver). Phase 0 noFrame m [] []) (sym q) (rest (omega arith)));
-        answered = none;
+        answered = nothing;
         spaced = tt;
         guard = ap (λ (k : SenderHalf). k .guard) e;
         tuned = t;
@@ -411,7 +411,7 @@ module _ {f g : Format} (fit : Fit f g) where
 -- == what was read ==
 
 answered-values : (f : Format) {ys xs : List Entry} → Answered f ys xs → values ys ≡ map (λ (x : Entry). cut f (x .value)) xs
-answered-values f none = refl
+answered-values f nothing = refl
 answered-values f (one a an) = ap₂ (λ (v : ℕ) (vs : List ℕ). v ∷ vs) (a .value) (answered-values f an)
 
 answered-first : (f : Format) {b : Bool} {ys xs : List Entry} {vs : List ℕ} → Fetched b ys vs → Answered f ys xs → FirstWrites f vs xs

@@ -9,7 +9,7 @@ use Rattle.link_rules.specs.Parts.{loaded, emptied}
 use Rattle.ins2651_rules.specs.declared.Device.{Device}
 use Rattle.ins2651_rules.specs.Ranges.{inRange}
 use Rattle.ins2651_rules.specs.RegisterWrites.{stored}
-use Rattle.ins2651_rules.specs.Runs.{Call, Reset, Read, Write, SetPins, Transmit, Receive, Outputs, next}
+use Rattle.ins2651_rules.specs.Runs.{Call, next, byCall, otherwise, atRead, atWrite}
 use Rattle.joined_rules.specs.Demand3.{Settings}
 
 pub record Ready (s : Settings) (d : Device) : Type 0 where
@@ -26,23 +26,11 @@ pub record Ready (s : Settings) (d : Device) : Type 0 where
 
 -- what an allowed call does to the sending half: a write of address 0 loads it
 abbrev pub senderAfter : Call → SenderHalf → SenderHalf
-senderAfter Reset h = h
-senderAfter (Read address) h = h
-senderAfter (Write address v) h = cond (eqb address 0) (loaded h v) h
-senderAfter (SetPins dsr dcd cts) h = h
-senderAfter Transmit h = h
-senderAfter (Receive x) h = h
-senderAfter Outputs h = h
+senderAfter c h = byCall (atWrite (λ address v. cond (eqb address 0) (loaded h v) h) (otherwise h)) c
 
 -- .. and to the receiving half: a read of address 0 empties it
 abbrev pub receiverAfter : Call → ReceiverHalf → ReceiverHalf
-receiverAfter Reset h = h
-receiverAfter (Read address) h = cond (eqb address 0) (emptied h) h
-receiverAfter (Write address v) h = h
-receiverAfter (SetPins dsr dcd cts) h = h
-receiverAfter Transmit h = h
-receiverAfter (Receive x) h = h
-receiverAfter Outputs h = h
+receiverAfter c h = byCall (atRead (λ address. cond (eqb address 0) (emptied h) h) (otherwise h)) c
 
 -- an allowed call c of the device d leaves it ready, and does so much to its halves
 pub record Kept (s : Settings) (d : Device) (c : Call) : Type 0 where

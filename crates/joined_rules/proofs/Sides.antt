@@ -21,7 +21,7 @@ use Rattle.ins2651_rules.specs.declared.Flags.{Flags}
 use Rattle.ins2651_rules.specs.declared.Device.{Device}
 use Rattle.ins2651_rules.specs.Shape.{resetDevice, withRegisters, withPins, pinLevels, withModes, withCommand, withChange}
 use Rattle.ins2651_rules.specs.Modes.{has, transmitEnable, receiveEnable, commandClears, formatOf, sendFormat, receiveFormat}
-use Rattle.ins2651_rules.specs.Conditions.{sending, breaking, receiving}
+use Rattle.ins2651_rules.specs.Conditions.{mayStart, breakOn, listening}
 use Rattle.ins2651_rules.specs.Ranges.{inRange}
 use Rattle.ins2651_rules.specs.Refusals.{writeRefusal}
 use Rattle.ins2651_rules.specs.RegisterWrites.{stored, writeRegister}
@@ -86,16 +86,16 @@ set-up-ready s p =
 
 -- what the ticks go by
 module _ (s : Settings) (d : Device) (p : Proper s) (r : Ready s d) where
-  may-send : sending d ≡ true
+  may-send : mayStart d ≡ true
   may-send = all (all (ap (has 1) (r .command) ∙ transmit-stored (s .command) ∙ p .transmits) (ap (λ (k : ℕ). eqb k 0) (r .cts))) (ap on (r .accepted))
 
   -- break is bit 3, and bit 4 alone is not stored
-  no-break : breaking d ≡ false
+  no-break : breakOn d ≡ false
   no-break =
       let kept : stored (s .command) / 8 % 2 ≡ s .command / 8 % 2 = omega arith in
       ap (has 8) (r .command) ∙ ap (λ (k : ℕ). eqb k 1) kept ∙ p .no-break
 
-  listens : receiving d ≡ true
+  listens : listening d ≡ true
   listens = all (all (ap (has 4) (r .command) ∙ receive-stored (s .command) ∙ p .receives) (ap (λ (k : ℕ). eqb k 0) (r .dcd))) (ap on (r .accepted))
 
 -- a side that is ready: its halves are told that they may go on, and nothing else

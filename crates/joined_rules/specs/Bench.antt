@@ -7,7 +7,7 @@ use lib.Dec.{eqb}
 use Rattle.ins2651_rules.specs.declared.Device.{Device}
 use Rattle.ins2651_rules.specs.Modes.{has}
 use Rattle.ins2651_rules.specs.RegisterReads.{read}
-use Rattle.ins2651_rules.specs.Runs.{Call, Reset, Read, Write, SetPins, Transmit, Receive, Outputs, next}
+use Rattle.ins2651_rules.specs.Runs.{Call, next, byCall, otherwise, atRead, atWrite}
 use Rattle.joined_rules.specs.declared.Pair.{Pair}
 use Rattle.joined_rules.specs.Joining.{tick}
 
@@ -56,23 +56,11 @@ logRead v w = record { written = w .written; came = w .came; read = v ∷ w .rea
 
 -- a call at the end that writes
 abbrev pub wrote : ℕ → Call → Way → Way
-wrote now Reset w = w
-wrote now (Read address) w = w
-wrote now (Write address v) w = cond (eqb address 0) (logWrite now v w) w
-wrote now (SetPins dsr dcd cts) w = w
-wrote now Transmit w = w
-wrote now (Receive x) w = w
-wrote now Outputs w = w
+wrote now c w = byCall (atWrite (λ address v. cond (eqb address 0) (logWrite now v w) w) (otherwise w)) c
 
 -- a call at the end that reads, to the device d
 abbrev pub fetched : Device → Call → Way → Way
-fetched d Reset w = w
-fetched d (Read address) w = cond (eqb address 0 && unread d) (logRead (character d) w) w
-fetched d (Write address v) w = w
-fetched d (SetPins dsr dcd cts) w = w
-fetched d Transmit w = w
-fetched d (Receive x) w = w
-fetched d Outputs w = w
+fetched d c w = byCall (atRead (λ address. cond (eqb address 0 && unread d) (logRead (character d) w) w) (otherwise w)) c
 
 -- a joined tick that makes e of the device d at the end that reads: a character came if bit 1 was 0 and is 1
 abbrev pub heard : ℕ → Device → Device → Way → Way

@@ -12,7 +12,7 @@ use Rattle.line_rules.specs.Sees.{Alike}
 use Rattle.ins2651_rules.specs.declared.Device.{Device}
 use Rattle.ins2651_rules.specs.Modes.{has, formatOf}
 use Rattle.ins2651_rules.specs.Refusals.{mode1Refusal, commandRefusal}
-use Rattle.ins2651_rules.specs.Runs.{Call, Reset, Read, Write, SetPins, Transmit, Receive, Outputs, after}
+use Rattle.ins2651_rules.specs.Runs.{Call, Reset, Write, SetPins, after, byCall, otherwise, atRead, atWrite, atPins, atOutputs}
 use Rattle.ins2651_rules.specs.Rows.{refusal}
 use Rattle.joined_rules.specs.Joining.{tick}
 use Rattle.joined_rules.specs.Bench.{statusBit, mayWrite, unread, Entry, Way, nothingYet, A, B, Step, Tick, At, Bench, step}
@@ -67,13 +67,13 @@ fresh d e a b =
 
 -- a call that is done: any read; a write of address 0 when status bit 0 is 1; a write of address 1; pins kept low; a look at the outputs
 abbrev pub harmless : Device → Call → Bool
-harmless d Reset = false
-harmless d (Read address) = true
-harmless d (Write address v) = cond (eqb address 0) (mayWrite d && ltb v 256) (eqb address 1)
-harmless d (SetPins dsr dcd cts) = eqb dsr 0 && eqb dcd 0 && eqb cts 0
-harmless d Transmit = false
-harmless d (Receive x) = false
-harmless d Outputs = true
+harmless d c =
+    byCall
+    (atRead (λ address. true)
+    (atWrite (λ address v. cond (eqb address 0) (mayWrite d && ltb v 256) (eqb address 1))
+    (atPins (λ dsr dcd cts. eqb dsr 0 && eqb dcd 0 && eqb cts 0)
+    (atOutputs true
+    (otherwise false))))) c
 
 -- and any call that is refused
 abbrev pub allowedCall : Device → Call → Bool
@@ -125,7 +125,7 @@ module _ (f : Format) where
 
   -- the arrivals, one by one, in the order of the writes; the latest first
   pub data Answered : List Entry → List Entry → Type 0 where
-    none : Answered [] []
+    nothing : Answered [] []
     one : {y x : Entry} {ys xs : List Entry} → Answers y x xs → Answered ys xs → Answered (y ∷ ys) (x ∷ xs)
 
   -- those of the first writes; each write that has none yet is still within its bound

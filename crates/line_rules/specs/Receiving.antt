@@ -24,9 +24,12 @@ waiting = atRest 0
 abbrev pub searching : Receiver
 searching = atRest 1
 
--- a character is under way: c ticks pass before look number m; the value so far, and 1 if its parity was wrong
-abbrev pub assembling : ℕ → ℕ → ℕ → ℕ → Receiver
-assembling c m v w = record { phase = 2; countdown = c; value = v; wrong = w; look = m }
+-- A character under way is looked at in turn: look 0 is at tick h, the start again; look m is at tick h + F m. So data bit i, which document 01
+-- takes at h + F(i+1), is look i + 1, the parity look n + 1, and the stop look n + p + 1, at D.
+
+-- it has `countdown` ticks before its next look, that look's number, its value so far, and 1 if its parity was wrong
+abbrev pub assembling : (countdown look value wrong : ℕ) → Receiver
+assembling countdown look value wrong = record { phase = 2; countdown = countdown; value = value; wrong = wrong; look = look }
 
 -- a 1 is the mark that starts a search
 abbrev pub afterMark : Bool → Receiver
@@ -36,35 +39,36 @@ afterMark x = cond x searching waiting
 abbrev pub quiet : Receiver → Sampled
 quiet r = record { next = r; heard = Nothing }
 
--- the next look stands F ticks on
-abbrev pub lookNext : Format → ℕ → ℕ → ℕ → Sampled
-lookNext f m v w = quiet (assembling (f .factor - 1) m v w)
+-- the next look is F ticks after this one
+abbrev pub lookNext : Format → (look value wrong : ℕ) → Sampled
+lookNext f look value wrong = quiet (assembling (f .factor - 1) look value wrong)
 
 -- data bit i, in a byte
 abbrev pub withBit : ℕ → ℕ → Bool → ℕ
-withBit v i x = (v + bit x * 2 ^ i) % 256
+withBit value i x = (value + bit x * 2 ^ i) % 256
 
 -- the start again: a 1 is a false start, and serves as the mark
 abbrev pub startLook : Format → Bool → Sampled
 startLook f x = cond x (quiet (afterMark true)) (lookNext f 1 0 0)
 
--- the parity of the value so far
-abbrev pub parityLook : Format → ℕ → ℕ → Bool → Sampled
-parityLook f m v x = lookNext f m v (bit (differ x (parityBit f v)))
+-- the parity of the value so far; the next look is the given one
+abbrev pub parityLook : Format → (look value : ℕ) → Bool → Sampled
+parityLook f look value x = lookNext f look value (bit (differ x (parityBit f value)))
 
 -- the stop: the character arrives; a stop of 0 is a framing fault, and a 1 must come before the next search
-abbrev pub stopLook : ℕ → ℕ → Bool → Sampled
-stopLook v w x = record { next = afterMark x; heard = Character (record { value = v; parity = on w; framing = not x }) }
+abbrev pub stopLook : (value wrong : ℕ) → Bool → Sampled
+stopLook value wrong x = record { next = afterMark x; heard = Character (record { value = value; parity = on wrong; framing = not x }) }
 
--- look number m sees x: 0 is at the start, 1 to n at the data, then parity, then stop
-abbrev pub lookAt : Format → ℕ → ℕ → ℕ → Bool → Sampled
-lookAt f zero v w x = startLook f x
-lookAt f (suc i) v w x = part f i (lookNext f (suc (suc i)) (withBit v i x) w) (parityLook f (suc (suc i)) v x) (stopLook v w x)
+-- a look sees x: look 0 the start, look i + 1 what follows it by its number i, which is data, parity or stop
+abbrev pub lookAt : Format → (look value wrong : ℕ) → Bool → Sampled
+lookAt f zero value wrong x = startLook f x
+lookAt f (suc i) value wrong x =
+    part f i (lookNext f (suc (suc i)) (withBit value i x) wrong) (parityLook f (suc (suc i)) value x) (stopLook value wrong x)
 
 -- a tick of a character under way: samples between looks are not looked at
-abbrev pub under : Format → ℕ → ℕ → ℕ → ℕ → Bool → Sampled
-under f zero m v w x = lookAt f m v w x
-under f (suc c) m v w x = quiet (assembling c m v w)
+abbrev pub under : Format → (countdown look value wrong : ℕ) → Bool → Sampled
+under f zero look value wrong x = lookAt f look value wrong x
+under f (suc countdown) look value wrong x = quiet (assembling countdown look value wrong)
 
 -- one sample x, by the receiver's phase: 0 waits, 1 searches, any other assembles
 unfoldable pub sample : Format → Receiver → Bool → Sampled

@@ -8,7 +8,7 @@ ghost use Rattle.link_rules.specs.Parts.{noFormat, noFrame, idleSender, loaded,
 ghost use Rattle.link_rules.specs.Transmitting;
 ghost use Rattle.link_rules.specs.Transmitting.{nextPlace, frameNext, frameTick, beginTick, idleTick, breakTick, markTick};
 ghost use Rattle.link_rules.specs.Hearing;
-ghost use Rattle.link_rules.specs.Hearing.{underWay, formatFor, keptFormat, stepped, holds};
+ghost use Rattle.link_rules.specs.Hearing.{underWay, characterFormat, keptFormat, stepped, holds};
 ghost use Rattle.link_rules.specs.Within.{isNoFormat, holdingInRange, busyInRange, freeInRange, frameInRange, senderInRange, countdownInRange, valueInRange, wrongInRange, assemblyInRange, restInRange, stateInRange, receiverInRange};
 use line_rules::Format;
 use line_rules::Heard;
@@ -224,8 +224,8 @@ fn under_way(s: Receiver) -> bool
 }
 
 // The format of a character is that of its tick 0.
-fn format_for(r: ReceiverHalf, f: Format) -> Format
-    ensures { λ g. ⌜ g ≡ formatFor r f ⌝ }
+fn character_format(r: ReceiverHalf, f: Format) -> Format
+    ensures { λ g. ⌜ g ≡ characterFormat r f ⌝ }
 {
     let state = r.state;
     if under_way(state) {
@@ -261,8 +261,8 @@ fn hold(mut r: ReceiverHalf, v: u8) -> ReceiverHalf
 }
 
 // What a sample brought enters the holding register, full or not.
-fn take(r: ReceiverHalf, heard: Heard) -> Received
-    ensures { λ t. ⌜ t ≡ Hearing.take r heard ⌝ }
+fn brought(r: ReceiverHalf, heard: Heard) -> Received
+    ensures { λ t. ⌜ t ≡ Hearing.brought r heard ⌝ }
 {
     match heard {
         Heard::Nothing => Received {
@@ -285,7 +285,7 @@ fn hear(r: ReceiverHalf, g: Format, x: bool) -> Received
     let o = line::sample(g, state, x);
     let next = o.next;
     let heard = o.heard;
-    take(step(r, g, next), heard)
+    brought(step(r, g, next), heard)
 }
 
 // A receive tick, told whether receive is on, the format and the level.
@@ -293,7 +293,7 @@ pub fn receive(r: ReceiverHalf, live: bool, f: Format, x: bool) -> Received
     ensures { λ t. ⌜ t ≡ Hearing.receive r live f x ⌝ }
 {
     if live {
-        return hear(r, format_for(r, f), x);
+        return hear(r, character_format(r, f), x);
     }
     Received {
         half: drop_character(r),

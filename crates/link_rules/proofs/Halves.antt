@@ -25,7 +25,7 @@ use Rattle.link_rules.specs.declared.Sent.{Sent}
 use Rattle.link_rules.specs.Parts.{noFrame, noFormat, dropped}
 use Rattle.link_rules.specs.Transmitting.{nextPlace, frameNext, frameTick, beginTick, breakTick, markTick, transmit}
 use Rattle.line_rules.proofs.Choice.{either}
-use Rattle.link_rules.specs.Hearing.{underWay, formatFor, stepped, arrives, take, hear, receive}
+use Rattle.link_rules.specs.Hearing.{underWay, characterFormat, stepped, arrives, brought, hear, receive}
 
 -- == the sender ==
 
@@ -86,36 +86,36 @@ frame-ends f c i fits h = ap (λ (k : ℕ). cond (on k) (frameOf f c k) noFrame)
 abbrev any : Heard → Bool
 any h = arrives (λ (a : Arrival). true) h
 
-take-unread : (r : ReceiverHalf) (h : Heard) → on (take r h .half .unread) ≡ cond (any (take r h .heard)) true (on (r .unread))
-take-unread r Nothing = refl
-take-unread r (Character a) = refl
+brought-unread : (r : ReceiverHalf) (h : Heard) → on (brought r h .half .unread) ≡ cond (any (brought r h .heard)) true (on (r .unread))
+brought-unread r Nothing = refl
+brought-unread r (Character a) = refl
 
-take-overrun : (r : ReceiverHalf) (h : Heard) → take r h .overrun ≡ (any (take r h .heard) && on (r .unread))
-take-overrun r Nothing = refl
-take-overrun r (Character a) = refl
+brought-overrun : (r : ReceiverHalf) (h : Heard) → brought r h .overrun ≡ (any (brought r h .heard) && on (r .unread))
+brought-overrun r Nothing = refl
+brought-overrun r (Character a) = refl
 
 module _ (r : ReceiverHalf) (live : Bool) (f : Format) (x : Bool) where
   abbrev tick : Received
   tick = receive r live f x
 
   abbrev sampled : Sampled
-  sampled = sample (formatFor r f) (r .state) x
+  sampled = sample (characterFormat r f) (r .state) x
 
   -- an arrival fills the register ..
   pub unread-after : on (tick .half .unread) ≡ cond (any (tick .heard)) true (on (r .unread))
   unfolding receive
   unread-after =
       either (λ (o : Received). on (o .half .unread) ≡ cond (any (o .heard)) true (on (r .unread))) live
-      {x = hear r (formatFor r f) x} {y = record { half = dropped r; heard = Nothing; overrun = false }}
-      (take-unread (stepped r (formatFor r f) (sampled .next)) (sampled .heard)) refl
+      {x = hear r (characterFormat r f) x} {y = record { half = dropped r; heard = Nothing; overrun = false }}
+      (brought-unread (stepped r (characterFormat r f) (sampled .next)) (sampled .heard)) refl
 
   -- .. and tells whether it found it unread
   pub overrun-told : tick .overrun ≡ (any (tick .heard) && on (r .unread))
   unfolding receive
   overrun-told =
       either (λ (o : Received). o .overrun ≡ (any (o .heard) && on (r .unread))) live
-      {x = hear r (formatFor r f) x} {y = record { half = dropped r; heard = Nothing; overrun = false }}
-      (take-overrun (stepped r (formatFor r f) (sampled .next)) (sampled .heard)) refl
+      {x = hear r (characterFormat r f) x} {y = record { half = dropped r; heard = Nothing; overrun = false }}
+      (brought-overrun (stepped r (characterFormat r f) (sampled .next)) (sampled .heard)) refl
 
 -- a tick that is off drops the character under way, waits for a 1 and brings nothing
 pub receive-off : (r : ReceiverHalf) (f : Format) (x : Bool) → receive r false f x ≡ record { half = dropped r; heard = Nothing; overrun = false }
@@ -129,7 +129,7 @@ receive-under r f x u = ap (λ (b : Bool). hear r (cond b (r .format) f) x) u
 
 -- the half reads in the format f: it has no character under way, or one that began in f
 abbrev pub Tuned : Format → ReceiverHalf → Type 0
-Tuned f r = formatFor r f ≡ f
+Tuned f r = characterFormat r f ≡ f
 
 -- after a sample that was read in f it does
 pub stepped-tuned : (f : Format) (r : ReceiverHalf) (s : Receiver) → Tuned f (stepped r f s)
@@ -139,17 +139,17 @@ stepped-tuned f r s = kept (underWay s)
     kept true = refl
     kept false = refl
 
-take-state : (r : ReceiverHalf) (h : Heard) → take r h .half .state ≡ r .state
-take-state r Nothing = refl
-take-state r (Character a) = refl
+brought-state : (r : ReceiverHalf) (h : Heard) → brought r h .half .state ≡ r .state
+brought-state r Nothing = refl
+brought-state r (Character a) = refl
 
-take-format : (r : ReceiverHalf) (h : Heard) → take r h .half .format ≡ r .format
-take-format r Nothing = refl
-take-format r (Character a) = refl
+brought-format : (r : ReceiverHalf) (h : Heard) → brought r h .half .format ≡ r .format
+brought-format r Nothing = refl
+brought-format r (Character a) = refl
 
-take-heard : (r : ReceiverHalf) (h : Heard) → take r h .heard ≡ h
-take-heard r Nothing = refl
-take-heard r (Character a) = refl
+brought-heard : (r : ReceiverHalf) (h : Heard) → brought r h .heard ≡ h
+brought-heard r Nothing = refl
+brought-heard r (Character a) = refl
 
 module _ (f : Format) (r : ReceiverHalf) (x : Bool) (t : Tuned f r) where
   pub receive-is : receive r true f x ≡ hear r f x
@@ -158,13 +158,13 @@ module _ (f : Format) (r : ReceiverHalf) (x : Bool) (t : Tuned f r) where
 
   -- its state and what it hears are the line's own step
   pub hear-state : receive r true f x .half .state ≡ sample f (r .state) x .next
-  hear-state = ap (λ (o : Received). o .half .state) receive-is ∙ take-state (stepped r f (sample f (r .state) x .next)) (sample f (r .state) x .heard)
+  hear-state = ap (λ (o : Received). o .half .state) receive-is ∙ brought-state (stepped r f (sample f (r .state) x .next)) (sample f (r .state) x .heard)
 
   pub hear-heard : receive r true f x .heard ≡ sample f (r .state) x .heard
-  hear-heard = ap (λ (o : Received). o .heard) receive-is ∙ take-heard (stepped r f (sample f (r .state) x .next)) (sample f (r .state) x .heard)
+  hear-heard = ap (λ (o : Received). o .heard) receive-is ∙ brought-heard (stepped r f (sample f (r .state) x .next)) (sample f (r .state) x .heard)
 
   hear-format : receive r true f x .half .format ≡ cond (underWay (sample f (r .state) x .next)) f noFormat
-  hear-format = ap (λ (o : Received). o .half .format) receive-is ∙ take-format (stepped r f (sample f (r .state) x .next)) (sample f (r .state) x .heard)
+  hear-format = ap (λ (o : Received). o .half .format) receive-is ∙ brought-format (stepped r f (sample f (r .state) x .next)) (sample f (r .state) x .heard)
 
   pub hear-tuned : Tuned f (receive r true f x .half)
   hear-tuned = rw (hear-state, hear-format) (stepped-tuned f r (sample f (r .state) x .next))

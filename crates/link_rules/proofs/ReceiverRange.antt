@@ -21,7 +21,7 @@ use Rattle.line_rules.proofs.Ranges.{in-range-bounds}
 use Rattle.link_rules.specs.declared.ReceiverHalf.{ReceiverHalf}
 use Rattle.link_rules.specs.declared.Received.{Received}
 use Rattle.link_rules.specs.Parts.{noFormat, idleReceiver, dropped, emptied}
-use Rattle.link_rules.specs.Hearing.{underWay, formatFor, stepped, take, hear, receive}
+use Rattle.link_rules.specs.Hearing.{underWay, characterFormat, stepped, brought, hear, receive}
 use Rattle.link_rules.specs.Within.{countdownInRange, valueInRange, wrongInRange, assemblyInRange, stateInRange, receiverInRange}
 use Rattle.line_rules.proofs.Choice.{either, each, all}
 
@@ -46,7 +46,7 @@ with-bit v i false h = omega (arith, mod-le (v + 0 * 2 ^ i) 256)
 record Due (g : Format) (c m v w : ℕ) : Type 0 where
   looks : m ≤ suc (g .length + parityBits g)
   ticks : c ≤ cond (eqb m 0) (half g) (g .factor)
-  taken : v < 2 ^ (m - 1)
+  afterSample : v < 2 ^ (m - 1)
   fits : v < 2 ^ g .length
   wrong : wrongInRange g m w ≡ true
 
@@ -66,7 +66,7 @@ module _ (g : Format) where
       (λ _ e. eqb-true w 0 e)
 
   due-first : Due g (half g) 0 0 0
-  due-first = record { looks = omega arith; ticks = omega arith; taken = omega arith; fits = pow-pos (g .length); wrong = none-wrong 0 }
+  due-first = record { looks = omega arith; ticks = omega arith; afterSample = omega arith; fits = pow-pos (g .length); wrong = none-wrong 0 }
 
   due : (s : Receiver) → assemblyInRange g s ≡ true → Due g (s .countdown) (s .look) (s .value) (s .wrong)
   due s e =
@@ -78,7 +78,7 @@ module _ (g : Format) where
       record {
         looks = leb-true _ _ (m .1);
         ticks = le-of-lt (ltb-true _ _ (c .1));
-        taken = ltb-true _ _ (b .0);
+        afterSample = ltb-true _ _ (b .0);
         fits = ltb-true _ _ (b .1);
         wrong = w .1;
       }
@@ -91,7 +91,7 @@ module _ (g : Format) where
     counted : (c m v w : ℕ) → Due g (suc c) m v w → Fine g (quiet (assembling c m v w))
     counted c m v w d =
         all ok
-        (all (all (all (le-leb _ _ (d .looks)) (lt-ltb _ _ (d .ticks))) (all (lt-ltb _ _ (d .taken)) (lt-ltb _ _ (d .fits))))
+        (all (all (all (le-leb _ _ (d .looks)) (lt-ltb _ _ (d .ticks))) (all (lt-ltb _ _ (d .afterSample)) (lt-ltb _ _ (d .fits))))
         (d .wrong))
 
     next-look : (i v w : ℕ) → i ≤ g .length + parityBits g → v < 2 ^ i → v < 2 ^ g .length → wrongInRange g (suc i) w ≡ true
@@ -99,7 +99,7 @@ module _ (g : Format) where
     next-look i v w l t h e =
         let F : 0 < g .factor = in-range-bounds g ok .ticks in
         counted (g .factor - 1) (suc i) v w
-        (record { looks = omega arith; ticks = rw (ne-eqb (suc i) 0 (omega arith)) (omega arith); taken = rw (suc-less i) t; fits = h; wrong = e })
+        (record { looks = omega arith; ticks = rw (ne-eqb (suc i) 0 (omega arith)) (omega arith); afterSample = rw (suc-less i) t; fits = h; wrong = e })
 
     data-look : (i v w : ℕ) (x : Bool) → i < g .length → v < 2 ^ i → wrongInRange g (suc i) w ≡ true
         → Fine g (lookNext g (suc (suc i)) (withBit v i x) w)
@@ -121,7 +121,7 @@ module _ (g : Format) where
     look-in zero v w true d = refl
     look-in zero v w false d = next-look 0 0 0 (omega arith) (omega arith) (pow-pos (g .length)) (none-wrong 1)
     look-in (suc i) v w x d =
-        let t = rw (suc-less i) at (d .taken) in
+        let t = rw (suc-less i) at (d .afterSample) in
         each (Fine g) (ltb i (g .length)) (λ a. data-look i v w x (ltb-true _ _ a) t (d .wrong))
         (λ a. each (Fine g) (ltb i (g .length + parityBits g))
         (λ b. parity-look i v x (ltb-false _ _ a) (ltb-true _ _ b) t (d .fits))
@@ -157,27 +157,27 @@ pub emptied-in : (r : ReceiverHalf) → receiverInRange r ≡ true → receiverI
 unfolding receiverInRange
 emptied-in r e = parts r e .1
 
-take-in : (r : ReceiverHalf) (o : Heard) → receiverInRange r ≡ true → receiverInRange (take r o .half) ≡ true
+brought-in : (r : ReceiverHalf) (o : Heard) → receiverInRange r ≡ true → receiverInRange (brought r o .half) ≡ true
 unfolding receiverInRange
-take-in r Nothing e = e
-take-in r (Character a) e = parts r e .1
+brought-in r Nothing e = e
+brought-in r (Character a) e = parts r e .1
 
 -- the format of a tick is in range, and is the one that a character under way has kept
 format-in : (r : ReceiverHalf) (f : Format) → stateInRange (r .format) (r .state) ≡ true → inRange f ≡ true
-    → (inRange (formatFor r f) ≡ true) × (underWay (r .state) ≡ true → assemblyInRange (formatFor r f) (r .state) ≡ true)
+    → (inRange (characterFormat r f) ≡ true) × (underWay (r .state) ≡ true → assemblyInRange (characterFormat r f) (r .state) ≡ true)
 format-in r f e ok =
     each (λ (g : Format). (inRange g ≡ true) × (underWay (r .state) ≡ true → assemblyInRange g (r .state) ≡ true)) (underWay (r .state))
     (λ u. let h = both _ _ (rw u at e) in (h .0, λ _. h .1))
     (λ u. (ok, λ t. absurd (omega (arith, ltb-true, ltb-false))))
 
 hear-in : (r : ReceiverHalf) (f : Format) (x : Bool) → receiverInRange r ≡ true → inRange f ≡ true
-    → receiverInRange (hear r (formatFor r f) x .half) ≡ true
+    → receiverInRange (hear r (characterFormat r f) x .half) ≡ true
 unfolding receiverInRange
 hear-in r f x e ok =
-    let g = formatFor r f in
+    let g = characterFormat r f in
     let o = sample g (r .state) x in
     let h = format-in r f (parts r e .1) ok in
-    take-in (stepped r g (o .next)) (o .heard) (all (parts r e .0) (sample-in g (h .0) (r .state) x (h .1)))
+    brought-in (stepped r g (o .next)) (o .heard) (all (parts r e .0) (sample-in g (h .0) (r .state) x (h .1)))
 
 pub receive-in : (r : ReceiverHalf) (live : Bool) (f : Format) (x : Bool)
     → receiverInRange r ≡ true → (live ≡ true → inRange f ≡ true)

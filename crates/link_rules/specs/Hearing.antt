@@ -20,8 +20,8 @@ abbrev pub underWay : Receiver → Bool
 underWay s = ltb 1 (s .phase)
 
 -- the format of a character is that of its tick 0
-abbrev pub formatFor : ReceiverHalf → Format → Format
-formatFor r f = cond (underWay (r .state)) (r .format) f
+abbrev pub characterFormat : ReceiverHalf → Format → Format
+characterFormat r f = cond (underWay (r .state)) (r .format) f
 
 -- the format g is kept while a character is under way
 abbrev pub keptFormat : Receiver → Format → Format
@@ -41,17 +41,17 @@ arrives p Nothing = false
 arrives p (Character a) = p a
 
 -- what the sample brought, and whether it found the register unread
-abbrev pub take : ReceiverHalf → Heard → Received
-take r Nothing = record { half = r; heard = Nothing; overrun = false }
-take r (Character a) = record { half = holds r (a .value); heard = Character a; overrun = on (r .unread) }
+abbrev pub brought : ReceiverHalf → Heard → Received
+brought r Nothing = record { half = r; heard = Nothing; overrun = false }
+brought r (Character a) = record { half = holds r (a .value); heard = Character a; overrun = on (r .unread) }
 
-abbrev pub taken : ReceiverHalf → Format → Sampled → Received
-taken r g o = take (stepped r g (o .next)) (o .heard)
+abbrev pub afterSample : ReceiverHalf → Format → Sampled → Received
+afterSample r g o = brought (stepped r g (o .next)) (o .heard)
 
 -- a tick while receive is on
 abbrev pub hear : ReceiverHalf → Format → Bool → Received
-hear r g x = taken r g (sample g (r .state) x)
+hear r g x = afterSample r g (sample g (r .state) x)
 
 -- the tick, told whether receive is on, the format and the level; one that is off looks at nothing
 unfoldable pub receive : ReceiverHalf → Bool → Format → Bool → Received
-receive r live f x = cond live (hear r (formatFor r f) x) (record { half = dropped r; heard = Nothing; overrun = false })
+receive r live f x = cond live (hear r (characterFormat r f) x) (record { half = dropped r; heard = Nothing; overrun = false })

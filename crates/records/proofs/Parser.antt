@@ -12,7 +12,7 @@ use lib.Dec.{ltb, leb, eqb}
 use lib.ListN.{length, length-append}
 use Rattle.line_rules.proofs.Choice.{each, all}
 use Rattle.line_rules.proofs.Table.{both}
-use Rattle.fields.specs.Parted.{parts, onFirst, none, numeral, numberOf, letterOf, fieldOf, fieldsOf}
+use Rattle.fields.specs.Parted.{parts, onFirst, noNumber, numeral, numberOf, letterOf, fieldOf, fieldsOf}
 use Rattle.fields.proofs.Gathered.{onto, onto-first, onto-none}
 use Rattle.fields.proofs.Numerals.{length-numeral, reads-numeral, number-is}
 use Rattle.records.specs.declared.Record.{Record}
@@ -78,7 +78,7 @@ unfolding fieldOf
 numbered limit l small e =
     let t = both (leb (min (length l) 10) 5) (leb (numberOf l) limit) e in
     let low : numberOf l ≤ limit = leb-true _ _ (t .1) in
-    let n = number-is l (lt-ltb (numberOf l) none (omega (arith, leb-true limit 65535 small))) in
+    let n = number-is l (lt-ltb (numberOf l) noNumber (omega (arith, leb-true limit 65535 small))) in
     subst (λ (f : List ℕ). Prints (Number (numberOf l % suc limit) ∷ []) (f ∷ [])) (sym (n .text))
     (rw (mod-eq-of-lt {n = numberOf l} {m = suc limit} (omega arith)) (a-number (length l) (n .some) (omega (arith, leb-true)) (n .within) nothing))
 

@@ -13,7 +13,7 @@ use Rattle.line_rules.proofs.Choice.{not-so}
 use Rattle.session_rules.specs.declared.Session.{Session}
 use Rattle.session_rules.specs.Whole.{answerText}
 use Rattle.session_rules.specs.Bytes.{goesOn, fresh, after, said, afterAll, saidAll, taken, lastSaid}
-use Rattle.session_rules.specs.Offers.{Host, begun, Offer, bytesTaken, offer, offers, none, over}
+use Rattle.session_rules.specs.Offers.{Host, begun, Offer, bytesTaken, offer, offers, isEmpty, over}
 use Rattle.session_rules.proofs.Feeding.{said-short, after-append, said-append}
 use Rattle.session_rules.proofs.Cutting.{stopped-after, stopped-said, whole-input}
 
@@ -81,7 +81,7 @@ ended {input} {h} p e = rw (p .split, said-append, after-append, ← p .state, p
     stopped : (left : List ℕ) → goesOn (h .session) ≡ false → saidAll fresh (p .given) ++ lastSaid (h .session) ≡ (saidAll fresh (p .given) ++ saidAll (h .session) left) ++ lastSaid (afterAll (h .session) left)
     stopped left f = rw (stopped-said (h .session) f left, stopped-after (h .session) f left, append-nil)
 
-    go : (left : List ℕ) → (none left || not (goesOn (h .session))) ≡ true → saidAll fresh (p .given) ++ lastSaid (h .session) ≡ (saidAll fresh (p .given) ++ saidAll (h .session) left) ++ lastSaid (afterAll (h .session) left)
+    go : (left : List ℕ) → (isEmpty left || not (goesOn (h .session))) ≡ true → saidAll fresh (p .given) ++ lastSaid (h .session) ≡ (saidAll fresh (p .given) ++ saidAll (h .session) left) ++ lastSaid (afterAll (h .session) left)
     go [] e = rw append-nil
     go (b ∷ bs) e = stopped (b ∷ bs) (not-so (goesOn (h .session)) e)
 

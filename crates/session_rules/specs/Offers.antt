@@ -38,9 +38,9 @@ offers h [] = h
 offers h (o ∷ os) = offers (offer h o) os
 
 -- nothing is left, or the last line that is taken is taken
-abbrev pub none : List ℕ → Bool
-none [] = true
-none (b ∷ bs) = false
+abbrev pub isEmpty : List ℕ → Bool
+isEmpty [] = true
+isEmpty (b ∷ bs) = false
 
 abbrev pub over : Host → Bool
-over h = none (h .left) || not (goesOn (h .session))
+over h = isEmpty (h .left) || not (goesOn (h .session))
