@@ -674,7 +674,12 @@ pub fn set_pins(d: Device, dsr: u8, dcd: u8, cts: u8) -> Outcome
 fn sent(d: Device) -> Sent
     ensures { λ r. ⌜ r ≡ Ticks.sent d ⌝ }
 {
-    link::transmit(d.sender, may_start(d), break_on(d), send_format(d.registers))
+    link::transmit(
+        d.sender,
+        may_start(d),
+        break_on(d),
+        send_format(d.registers),
+    )
 }
 
 // What it leaves, and the empty-mark.

@@ -11,6 +11,7 @@ pub mod FrameWhole
 pub mod Arrives
 pub mod ByHistory
 pub mod Bench
+pub mod RuleRows
 pub mod PointersMove
 pub mod Rules
 pub mod StatusBits

@@ -30,7 +30,7 @@ transmits (c ∷ cs) = ifTransmit c (suc (transmits cs)) (transmits cs)
 -- the levels that they send
 abbrev pub levelsSent : Device → List Call → List ℕ
 levelsSent d [] = []
-levelsSent d (c ∷ cs) = ifTransmit c (transmit d .level ∷ levelsSent (next d c) cs) (levelsSent (next d c) cs)
+levelsSent d (c ∷ cs) = let rest = levelsSent (next d c) cs in ifTransmit c (transmit d .level ∷ rest) rest
 
 -- no frame is under way and no guard stands
 abbrev pub senderFree : Device → Bool
