@@ -18,8 +18,9 @@ use Rattle.link_rules.specs.Hearing as link-hearing
 use Rattle.line_rules.proofs.Bits.{on-bit}
 use Rattle.line_rules.proofs.Choice.{either, all, neither}
 use Rattle.ins2651_rules.specs.declared.Flags.{Flags}
+use Rattle.ins2651_rules.specs.declared.Registers.{Registers}
 use Rattle.ins2651_rules.specs.declared.Device.{Device}
-use Rattle.ins2651_rules.specs.Shape.{resetDevice, withRegisters, withPins, pinLevels, withModes, withCommand, withChange}
+use Rattle.ins2651_rules.specs.Shape.{resetDevice, withRegisters, withPins, pinLevels, withMode1, withMode2, accepting, toMode2, withCommand, withChange}
 use Rattle.ins2651_rules.specs.Modes.{has, transmitEnable, receiveEnable, commandClears, formatOf, sendFormat, receiveFormat}
 use Rattle.ins2651_rules.specs.Conditions.{mayStart, breakOn, listening}
 use Rattle.ins2651_rules.specs.Ranges.{inRange}
@@ -39,15 +40,18 @@ use Rattle.joined_rules.proofs.Ready.{Ready}
 
 -- == set-up ==
 
--- the device just reset, but for its modes
-abbrev programmed : (mode1 mode2 modes : ℕ) → Device
-programmed m n k = withRegisters resetDevice (withModes (resetDevice .registers) m n 1 k)
+-- the registers just reset, but for an accepted mode 1 ..
+abbrev withFirst : ℕ → Registers
+withFirst m = accepting (withMode1 (resetDevice .registers) m)
+
+-- .. and for both modes
+abbrev withBoth : Settings → Registers
+withBoth s = withMode2 (withFirst (s .mode1)) (s .mode2)
 
 -- what document 01's sequence leaves of any device
 abbrev pub setUpDevice : Settings → Device
 setUpDevice s =
-    withPins (withRegisters resetDevice (withCommand (withModes (resetDevice .registers) (s .mode1) (s .mode2) 1 0) (stored (s .command)))) (pinLevels 0 0 0)
-    (withChange (resetDevice .flags) 1)
+    withPins (withRegisters resetDevice (withCommand (withBoth s) (stored (s .command)))) (pinLevels 0 0 0) (withChange (resetDevice .flags) 1)
 
 -- a write that is not refused, to a device in range: the run goes on from what it leaves, and that is in range
 writes : (d : Device) (address v : ℕ) (cs : List Call) {e : Device} → inRange d ≡ true → writeRefusal (d .registers) address v ≡ 0
@@ -62,7 +66,7 @@ same : {X : Type 0} (t : Bool) (x : X) → cond t x x ≡ x
 same t x = either (λ y. y ≡ x) t refl refl
 
 -- a command finds nothing to clear, and the pins that go low set the change-mark
-lowered : (s : Settings) → pinned (writeRegister (programmed (s .mode1) (s .mode2) 0) 3 (s .command)) 0 0 0 ≡ setUpDevice s
+lowered : (s : Settings) → pinned (writeRegister (withRegisters resetDevice (withBoth s)) 3 (s .command)) 0 0 0 ≡ setUpDevice s
 unfolding writeRegister pinned
 lowered s = rw (same {X = ℕ} (commandClears (s .command)) 0, same {X = ℕ} (not (transmitEnable (s .command))) 0, same (receiveEnable (s .command)) idleReceiver)
 
@@ -71,9 +75,9 @@ pub set-up-leaves : (s : Settings) (d : Device) → Proper s → after d (setUp 
 unfolding writeRefusal writeRegister
 set-up-leaves s d p =
     writes resetDevice 2 (s .mode1) (Write 2 (s .mode2) ∷ Write 3 (s .command) ∷ SetPins 0 0 0 ∷ []) reset-in (p .mode1) λ h.
-    writes (programmed (s .mode1) 0 1) 2 (s .mode2) (Write 3 (s .command) ∷ SetPins 0 0 0 ∷ []) h refl λ h.
-    writes (programmed (s .mode1) (s .mode2) 0) 3 (s .command) (SetPins 0 0 0 ∷ []) h (p .command) λ h.
-    let e : Device = writeRegister (programmed (s .mode1) (s .mode2) 0) 3 (s .command) in
+    writes (withRegisters resetDevice (toMode2 (withFirst (s .mode1)))) 2 (s .mode2) (Write 3 (s .command) ∷ SetPins 0 0 0 ∷ []) h refl λ h.
+    writes (withRegisters resetDevice (withBoth s)) 3 (s .command) (SetPins 0 0 0 ∷ []) h (p .command) λ h.
+    let e : Device = writeRegister (withRegisters resetDevice (withBoth s)) 3 (s .command) in
     does-pins e h 0 0 0 refl ∙ lowered s
 
 -- .. and that side is ready
