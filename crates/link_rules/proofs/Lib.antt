@@ -1,3 +1,4 @@
 pub mod SenderRange
 pub mod ReceiverRange
 pub mod Halves
+pub mod BreakAndEnd
