@@ -1,5 +1,5 @@
 // Many ticks at once where they only count: document 01, "Sending" and "Receiving", by joined ticks.
-// Every call takes any number in any field: `calm_rules` says what each answers, inside the range and outside.
+// Every call takes any number in any field and checks no range: `calm_rules` says what each answers, inside the range and outside.
 ghost use mathlib.Core.Path.{_≡_};
 ghost use Prim.Native.Nat.{_-_};
 ghost use Rattle.ins2651_rules.specs.Conditions;

@@ -1,5 +1,6 @@
 // The INS2651 over its two halves: document 01's registers, pins, outputs and ticks.
 // Every call takes any number in any field. A device out of range is taken as one just reset; a refused call hands it back as given.
+// `transmit_tick` and `receive_tick` alone check no range: they are for a run of ticks, which settles its device once.
 ghost use mathlib.Core.Path.{_≡_};
 ghost use Prim.Native.Nat.{_≤_};
 ghost use Rattle.line_rules.specs.Sending.{bit};
