@@ -6,7 +6,7 @@ use mathlib.Core.Path.{_≡_, refl, sym, ap, ap₂, subst, _∙_}
 use mathlib.Core.Bool.{Bool, true, false, cond, not, _&&_, _||_}
 use mathlib.Core.List.{List, [], _∷_}
 use lib.Dec.{leb, eqb}
-use borrow.Author.Tests.{ltb-true, ltb-false, leb-true, eq-eqb, eqb-true, ne-eqb, eqb-false}
+use borrow.Author.Tests.{ltb-true, ltb-false, le-ltb, leb-true, eq-eqb, eqb-true, ne-eqb, eqb-false}
 use Rattle.line_rules.specs.declared.Arrival.{Arrival}
 use Rattle.line_rules.specs.declared.Heard.{Heard}
 use Rattle.line_rules.specs.declared.Heard.the-variants.{Nothing, Character}
@@ -25,7 +25,7 @@ use Rattle.ins2651_rules.specs.Modes.{sendFormat, receiveFormat, transmi
 use Rattle.ins2651_rules.specs.Conditions.{dataSetReady, carrier, transmitEnabled, mayStart, breakOn, listening, unread}
 use Rattle.ins2651_rules.specs.Status.{statusByte}
 use Rattle.ins2651_rules.specs.Ranges.{inRange, settled}
-use Rattle.ins2651_rules.specs.Refusals.{commandRefusal, writeRefusal}
+use Rattle.ins2651_rules.specs.Refusals.{readRefusal, commandRefusal, writeRefusal}
 use Rattle.ins2651_rules.specs.RegisterReads.{readRegister}
 use Rattle.ins2651_rules.specs.RegisterWrites.{unless, synsWritten, modesWritten, writeRegister}
 use Rattle.ins2651_rules.specs.Pinning.{orSet, changes, pinned}
@@ -34,9 +34,9 @@ use Rattle.ins2651_rules.specs.Runs.{Call, Reset, Read, Write, SetPins, 
 use Rattle.ins2651_rules.specs.Rows.{refusal}
 use Rattle.ins2651_rules.specs.History.{clearingCommand, Happened, plainly, happened, history, dsrLow, dcdLow, unreadBy, framingBy, parityBy, overrunBy, enabledBy, waitingBy, emptyBy, changeBy, statusBy}
 use Rattle.ins2651_rules.proofs.Settled.{settled-is, reset-in}
-use Rattle.ins2651_rules.proofs.Done.{done-read, done-write, done-pins, done-receive}
+use Rattle.ins2651_rules.proofs.Done.{done-read, done-write, done-pins, done-receive, does-read}
 use Rattle.ins2651_rules.proofs.Commands.{transmit-stored}
-use Rattle.ins2651_rules.proofs.Refused.{read-address, write-address, command-accepted, levels-taken, refused-unchanged}
+use Rattle.ins2651_rules.proofs.Refused.{read-address, write-address, command-accepted, levels-taken, answers-refusal, refused-unchanged}
 use Rattle.ins2651_rules.proofs.InRange.{parts, next-in, after-in}
 
 -- the device shows what happened
@@ -212,16 +212,16 @@ module _ (d : Device) (h : inRange d ≡ true) (es : List Happened) (a : Agrees 
       subst (λ (o : Outcome). Agrees (o .device) (happened d (Receive x) ∷ es)) (sym (done-receive d x n)) (receive-shown (settled d) es settled-shown x)
   done-shown Outputs n = record { dsr = a .dsr; dcd = a .dcd; framing = a .framing; overrun = a .overrun; parity = a .parity; empty = a .empty; change = a .change; unread = a .unread; enabled = a .enabled; waiting = a .waiting }
 
-  shown : (c : Call) → Agrees (next d c) (cond (eqb (refusal d c) 0) (happened d c ∷ es) es)
-  shown c =
-      each (Agrees (next d c)) (eqb (refusal d c) 0) (λ t. done-shown c (eqb-true _ _ t))
-      (λ t. subst (λ (e : Device). Agrees e es) (sym (refused-unchanged d c (eqb-false _ _ t) .device)) a)
-
 -- == runs ==
 
-run : (d : Device) (cs : List Call) (es : List Happened) → inRange d ≡ true → Agrees d es → Agrees (after d cs) (history d cs es)
-run d [] es h a = a
-run d (c ∷ cs) es h a = run (next d c) cs (cond (eqb (refusal d c) 0) (happened d c ∷ es) es) (next-in d c h) (shown d h es a c)
+-- what each done call keeps, as a refused one does, holds after any run
+module _ (Holds : Device → List Happened → Type 0) (step : (d : Device) → inRange d ≡ true → (es : List Happened) → Holds d es → (c : Call) → refusal d c ≡ 0 → Holds (next d c) (happened d c ∷ es)) where
+  pub along-history : (d : Device) (cs : List Call) (es : List Happened) → inRange d ≡ true → Holds d es → Holds (after d cs) (history d cs es)
+  along-history d [] es h a = a
+  along-history d (c ∷ cs) es h a =
+      along-history (next d c) cs (cond (eqb (refusal d c) 0) (happened d c ∷ es) es) (next-in d c h)
+      (each (Holds (next d c)) (eqb (refusal d c) 0) (λ t. step d h es a c (eqb-true _ _ t))
+      (λ t. subst (λ (e : Device). Holds e es) (sym (refused-unchanged d c (eqb-false _ _ t) .device)) a))
 
 vacant-is : (x : ℕ) → eqb x 0 ≡ not (on x)
 vacant-is x = go (on x) refl
@@ -240,15 +240,19 @@ module _ (cs : List Call) where
   now = after resetDevice cs
 
   told : Agrees now (history resetDevice cs [])
-  told = run resetDevice cs [] reset-in (record { dsr = refl; dcd = refl; framing = refl; overrun = refl; parity = refl; empty = refl; change = refl; unread = refl; enabled = refl; waiting = refl })
+  told = along-history Agrees done-shown resetDevice cs [] reset-in (record { dsr = refl; dcd = refl; framing = refl; overrun = refl; parity = refl; empty = refl; change = refl; unread = refl; enabled = refl; waiting = refl })
 
-  status-there : readRegister (settled now) 1 .value ≡ statusBy (history resetDevice cs [])
+  -- a read of an address up to 3 is done, and answers the register's value
+  pub read-says : (address v : ℕ) → address ≤ 3 → readRegister now address .value ≡ v → said now (Read address) ≡ record { refusal = 0; values = v ∷ [] }
+  read-says address v l e =
+      let n : readRefusal address ≡ 0 = ap (λ (b : Bool). cond b 1 0) (le-ltb 3 address l) in
+      ap₂ (λ (k : ℕ) (w : ℕ). record { refusal = k; values = w ∷ [] }) (answers-refusal now (Read address) ∙ n)
+      (ap (λ (o : Answer). o .value) (does-read now (after-in resetDevice cs reset-in) address n) ∙ e)
+
+  pub status-there : readRegister now 1 .value ≡ statusBy (history resetDevice cs [])
   unfolding readRegister
-  status-there = ap statusByte (settled-is now (after-in resetDevice cs reset-in)) ∙ status-is now (history resetDevice cs []) told
+  status-there = status-is now (history resetDevice cs []) told
 
   -- after any run from reset, a status read answers what the history says
   pub status-by-history : said now (Read 1) ≡ record { refusal = 0; values = statusBy (history resetDevice cs []) ∷ [] }
-  unfolding readRegister
-  status-by-history =
-      ap (λ (o : Answer). record { refusal = o .refusal; values = o .value ∷ [] }) (done-read now 1 refl)
-      ∙ ap (λ (v : ℕ). record { refusal = 0; values = v ∷ [] }) status-there
+  status-by-history = read-says 1 (statusBy (history resetDevice cs [])) (omega arith) status-there

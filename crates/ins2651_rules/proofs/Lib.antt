@@ -13,6 +13,7 @@ pub mod ByHistory
 pub mod Bench
 pub mod RuleRows
 pub mod PointersMove
+pub mod ReadByHistory
 pub mod Rules
 pub mod StatusBits
 pub mod Premises

@@ -1,5 +1,6 @@
--- Devices set up by document 01's calls meet the premises of the theorems over runs: none of those is empty.
+-- Devices set up by document 01's calls meet the premises of the theorems over runs: none of those is empty. And a history computes.
 -- Assumes nothing.
+use Prim.Native.Nat.{ℕ}
 use mathlib.Core.Path.{_≡_, refl}
 use mathlib.Core.Bool.{true}
 use mathlib.Core.List.{List, [], _∷_, map}
@@ -11,6 +12,7 @@ use Rattle.link_rules.specs.Transmitting as link-transmitting
 use Rattle.link_rules.specs.Hearing as link-hearing
 use Rattle.link_rules.specs.Within.{senderInRange, receiverInRange}
 use Rattle.ins2651_rules.specs.declared.Device.{Device}
+use Rattle.ins2651_rules.specs.Shape.{resetDevice}
 use Rattle.ins2651_rules.specs.Modes.{formatOf, receiveFormat}
 use Rattle.ins2651_rules.specs.Conditions.{listening}
 use Rattle.ins2651_rules.specs.Status.{statusByte}
@@ -21,6 +23,8 @@ use Rattle.ins2651_rules.specs.RegisterWrites.{writeRegister, write}
 use Rattle.ins2651_rules.specs.Pinning.{pinned, setPins}
 use Rattle.ins2651_rules.specs.Ticks.{transmitTick, transmit, receiveTick, receive}
 use Rattle.ins2651_rules.specs.Runs.{Call, Read, Write, SetPins, Transmit, Receive, Outputs, next}
+use Rattle.ins2651_rules.specs.History.{history, statusBy}
+use Rattle.ins2651_rules.specs.ReadHistory.{byteBy}
 use Rattle.ins2651_rules.specs.Line.{levelsSent, samples, arrivedIn, Listens}
 use Rattle.ins2651_rules.specs.BenchCases.{setUp, externalFormat}
 use Rattle.ins2651_rules.proofs.FrameWhole.{frame-sent}
@@ -44,3 +48,12 @@ hears =
     let on : (d : Device) → listening d ≡ true → receiveFormat (d .registers) ≡ externalFormat 65 → Listens (externalFormat 65) d = λ d l f. record { live = l; format = f } in
     arrivals-are-the-reading (externalFormat 65) (setUp 65) heard refl refl
     (on _ refl refl, (on _ refl refl, (on _ refl refl, (on _ refl refl, (on _ refl refl, (on _ refl refl, (on _ refl refl, (on _ refl refl, (on _ refl refl, (on _ refl refl, on _ refl refl))))))))))
+
+-- a command with bit 4, a mode 2 with bits 7-6, the character 5 that comes and is read, a mode read, and two calls that are refused
+abbrev spoken : List Call
+spoken = Write 2 65 ∷ Write 2 192 ∷ Write 3 55 ∷ SetPins 0 0 0 ∷ Receive 1 ∷ Receive 0 ∷ Receive 1 ∷ Receive 0 ∷ Write 3 64 ∷ Receive 1 ∷ Receive 0 ∷ Receive 0 ∷ Receive 1 ∷ Read 0 ∷ Read 2 ∷ Read 4 ∷ []
+
+-- what the history tells of the four addresses
+tells : map (λ (address : ℕ). byteBy address (history resetDevice spoken [])) (0 ∷ 1 ∷ 2 ∷ 3 ∷ []) ≡ 5 ∷ 197 ∷ 192 ∷ 39 ∷ []
+unfolding part sample link-transmitting.transmit link-hearing.receive line-range.inRange senderInRange receiverInRange formatOf statusByte inRange settled writeRefusal readRegister read writeRegister write pinned setPins transmitTick transmit receiveTick receive statusBy byteBy
+tells = refl
