@@ -8,6 +8,7 @@ pub mod Outside
 pub mod Leaves
 pub mod FlagsStay
 pub mod FrameWhole
+pub mod CharacterSent
 pub mod Arrives
 pub mod ByHistory
 pub mod Bench

@@ -1,9 +1,11 @@
 -- Devices set up by document 01's calls meet the premises of the theorems over runs: none of those is empty. And a history computes.
 -- Assumes nothing.
 use Prim.Native.Nat.{ℕ}
+use native.Mathlib.Omega.{arith}
 use mathlib.Core.Path.{_≡_, refl}
 use mathlib.Core.Bool.{true}
-use mathlib.Core.List.{List, [], _∷_, map}
+use mathlib.Core.List.{List, [], _∷_, _++_, map}
+use lib.ListN.{drop}
 use Rattle.line_rules.specs.Sending.{bit, frame, part}
 use Rattle.line_rules.specs.Range as line-range
 use Rattle.line_rules.specs.Reading.{reading}
@@ -22,12 +24,12 @@ use Rattle.ins2651_rules.specs.RegisterReads.{readRegister, read}
 use Rattle.ins2651_rules.specs.RegisterWrites.{writeRegister, write}
 use Rattle.ins2651_rules.specs.Pinning.{pinned, setPins}
 use Rattle.ins2651_rules.specs.Ticks.{transmitTick, transmit, receiveTick, receive}
-use Rattle.ins2651_rules.specs.Runs.{Call, Read, Write, SetPins, Transmit, Receive, Outputs, next}
+use Rattle.ins2651_rules.specs.Runs.{Call, Read, Write, SetPins, Transmit, Receive, Outputs, next, after}
 use Rattle.ins2651_rules.specs.History.{history, statusBy}
 use Rattle.ins2651_rules.specs.ReadHistory.{byteBy}
 use Rattle.ins2651_rules.specs.Line.{levelsSent, samples, arrivedIn, Listens}
 use Rattle.ins2651_rules.specs.BenchCases.{setUp, externalFormat}
-use Rattle.ins2651_rules.proofs.FrameWhole.{frame-sent}
+use Rattle.ins2651_rules.proofs.CharacterSent.{frame-sent, written-sent, waiting-follows}
 use Rattle.ins2651_rules.proofs.Arrives.{arrivals-are-the-reading}
 
 -- 77 is 8 bits at one tick a bit: the ten levels of 65, with a mode written, a break commanded and CTS raised inside the frame
@@ -37,6 +39,25 @@ between = Write 2 78 ∷ Transmit ∷ Transmit ∷ Write 3 9 ∷ Transmit ∷ Tr
 sends-65 : levelsSent (next (setUp 77) (Write 0 65)) (Transmit ∷ between) ≡ map bit (frame (externalFormat 77) 65)
 unfolding line-range.inRange senderInRange receiverInRange formatOf inRange settled writeRefusal writeRegister write pinned setPins
 sends-65 = frame-sent (setUp 77) 65 refl refl refl refl between refl refl
+
+-- the same, where between the write and the first level CTS is high for two ticks and status is read
+abbrev late : List Call
+late = SetPins 0 0 1 ∷ Transmit ∷ Read 1 ∷ Transmit ∷ SetPins 0 0 0 ∷ []
+
+sends-late : levelsSent (after (next (setUp 77) (Write 0 65)) late) (Transmit ∷ between) ≡ map bit (frame (externalFormat 77) 65)
+unfolding link-transmitting.transmit line-range.inRange senderInRange receiverInRange formatOf statusByte inRange settled writeRefusal readRegister read writeRegister write pinned setPins transmitTick transmit
+sends-late = written-sent (setUp 77) 65 refl late refl refl refl refl refl between refl refl
+
+-- 66 written with the first level of 65 behind it, and transmit disabled for a while: the other nine levels of 65, then the ten of 66
+abbrev twoWritten : Device
+twoWritten = after (setUp 77) (Write 0 65 ∷ Transmit ∷ Write 0 66 ∷ [])
+
+abbrev nineLeft : List Call
+nineLeft = Transmit ∷ Transmit ∷ Transmit ∷ Write 3 4 ∷ Transmit ∷ Transmit ∷ Read 1 ∷ Transmit ∷ Transmit ∷ Write 3 5 ∷ Transmit ∷ Transmit ∷ []
+
+sends-both : levelsSent twoWritten (nineLeft ++ Transmit ∷ between) ≡ map bit (drop 1 (frame (externalFormat 77) 65) ++ frame (externalFormat 77) 66)
+unfolding link-transmitting.transmit line-range.inRange senderInRange receiverInRange formatOf statusByte inRange settled writeRefusal readRegister read writeRegister write pinned setPins transmitTick transmit
+sends-both = waiting-follows (externalFormat 77) 65 1 66 twoWritten refl (omega arith) refl (record { full = refl; holding = refl }) nineLeft refl refl refl refl between refl refl
 
 -- 65 is 5 bits at one tick a bit: a mark, a start and data with other calls between, some of them refused
 abbrev heard : List Call

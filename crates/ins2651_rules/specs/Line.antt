@@ -2,7 +2,7 @@
 -- Assumes nothing.
 use Prim.Native.Nat.{ℕ, suc}
 use mathlib.Core.Path.{_≡_}
-use mathlib.Core.Bool.{Bool, true, cond, _&&_}
+use mathlib.Core.Bool.{Bool, true, false, cond, not, _&&_, _||_}
 use mathlib.Core.List.{List, [], _∷_}
 use lib.Dec.{leb, eqb}
 use Rattle.line_rules.specs.declared.Format.{Format}
@@ -13,8 +13,9 @@ use Rattle.ins2651_rules.specs.declared.Device.{Device}
 use Rattle.ins2651_rules.specs.Modes.{receiveFormat}
 use Rattle.ins2651_rules.specs.Conditions.{listening}
 use Rattle.ins2651_rules.specs.Ranges.{settled}
-use Rattle.ins2651_rules.specs.Ticks.{transmit, received}
+use Rattle.ins2651_rules.specs.Ticks.{sent, transmit, received}
 use Rattle.ins2651_rules.specs.Runs.{Call, next, byCall, otherwise, atTransmit, atReceive}
+use Rattle.ins2651_rules.specs.History.{resets, writesHolding}
 
 -- == sent ==
 
@@ -35,6 +36,24 @@ levelsSent d (c ∷ cs) = let rest = levelsSent (next d c) cs in ifTransmit c (t
 -- no frame is under way and no guard stands
 abbrev pub senderFree : Device → Bool
 senderFree d = eqb (d .sender .frame .place) 0 && eqb (d .sender .guard) 0
+
+-- THR holds the character v
+pub record Waits (v : ℕ) (d : Device) : Type 0 where
+  pub full : d .sender .full ≡ 1
+  pub holding : d .sender .holding ≡ v
+
+-- a reset drops the character that waits, a write of THR replaces it
+abbrev pub displaces : Call → Bool
+displaces c = resets c || writesHolding c
+
+-- a transmit tick that is a frame's first
+abbrev pub begins : Device → Call → Bool
+begins d c = ifTransmit c (sent (settled d) .began) false
+
+-- no call of a run is
+abbrev pub noneBegins : Device → List Call → Bool
+noneBegins d [] = true
+noneBegins d (c ∷ cs) = not (begins d c) && noneBegins (next d c) cs
 
 -- == taken ==
 

@@ -45,15 +45,21 @@ module _ (s : SenderHalf) (ready broken : Bool) (f : Format) where
   unfolding transmit
   transmit-idle t r = rw (t, r) (either (λ (o : Sent). o ≡ markTick s) (on (s .guard)) {x = markTick s} {y = markTick s} refl refl)
 
+  -- what holds of each kind of tick holds of the tick
+  of-each : (P : Sent → Type 0) → P (frameTick s (s .frame) false) → P (breakTick s f) → P (markTick s) → P (beginTick s f) → P (transmit s ready broken f)
+  unfolding transmit
+  of-each P under brk mark begin =
+      either P (on (s .frame .place)) under
+      (either P (ready && broken) brk
+      (either P (on (s .guard)) mark
+      (either P (ready && on (s .full)) begin mark)))
+
   -- the holding register is empty after a frame's first tick, and as it was after any other
   pub full-after : transmit s ready broken f .half .full ≡ cond (transmit s ready broken f .began) 0 (s .full)
-  unfolding transmit
-  full-after =
-      let P : Sent → Type 0 = λ o. o .half .full ≡ cond (o .began) 0 (s .full) in
-      either P (on (s .frame .place)) {x = frameTick s (s .frame) false} refl
-      (either P (ready && broken) {x = breakTick s f} refl
-      (either P (on (s .guard)) {x = markTick s} refl
-      (either P (ready && on (s .full)) {x = beginTick s f} {y = markTick s} refl refl)))
+  full-after = of-each (λ o. o .half .full ≡ cond (o .began) 0 (s .full)) refl refl refl refl
+
+  pub holding-after : transmit s ready broken f .half .holding ≡ cond (transmit s ready broken f .began) 0 (s .holding)
+  holding-after = of-each (λ o. o .half .holding ≡ cond (o .began) 0 (s .holding)) refl refl refl refl
 
 -- L is at most 768
 pub length-bound : (f : Format) → Bounds f → frameLength f ≤ 768
