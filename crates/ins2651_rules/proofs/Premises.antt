@@ -28,7 +28,7 @@ use Rattle.ins2651_rules.specs.Runs.{Call, Read, Write, SetPins, Transmi
 use Rattle.ins2651_rules.specs.History.{history, statusBy}
 use Rattle.ins2651_rules.specs.ReadHistory.{byteBy}
 use Rattle.ins2651_rules.specs.Line.{levelsSent, samples, arrivedIn, Listens}
-use Rattle.ins2651_rules.specs.BenchCases.{setUp, externalFormat}
+use Rattle.ins2651_rules.specs.BenchCases.{chipWith, externalFormat}
 use Rattle.ins2651_rules.proofs.CharacterSent.{frame-sent, written-sent, waiting-follows}
 use Rattle.ins2651_rules.proofs.Arrives.{arrivals-are-the-reading}
 
@@ -36,21 +36,21 @@ use Rattle.ins2651_rules.proofs.Arrives.{arrivals-are-the-reading}
 abbrev between : List Call
 between = Write 2 78 ∷ Transmit ∷ Transmit ∷ Write 3 9 ∷ Transmit ∷ Transmit ∷ SetPins 0 0 1 ∷ Transmit ∷ Transmit ∷ Write 3 0 ∷ Transmit ∷ Transmit ∷ Read 1 ∷ Transmit ∷ Receive 0 ∷ Outputs ∷ []
 
-sends-65 : levelsSent (next (setUp 77) (Write 0 65)) (Transmit ∷ between) ≡ map bit (frame (externalFormat 77) 65)
+sends-65 : levelsSent (next (chipWith 77) (Write 0 65)) (Transmit ∷ between) ≡ map bit (frame (externalFormat 77) 65)
 unfolding line-range.inRange senderInRange receiverInRange formatOf inRange settled writeRefusal writeRegister write pinned setPins
-sends-65 = frame-sent (setUp 77) 65 refl refl refl refl between refl refl
+sends-65 = frame-sent (chipWith 77) 65 refl refl refl refl between refl refl
 
 -- the same, where between the write and the first level CTS is high for two ticks and status is read
 abbrev late : List Call
 late = SetPins 0 0 1 ∷ Transmit ∷ Read 1 ∷ Transmit ∷ SetPins 0 0 0 ∷ []
 
-sends-late : levelsSent (after (next (setUp 77) (Write 0 65)) late) (Transmit ∷ between) ≡ map bit (frame (externalFormat 77) 65)
+sends-late : levelsSent (after (next (chipWith 77) (Write 0 65)) late) (Transmit ∷ between) ≡ map bit (frame (externalFormat 77) 65)
 unfolding link-transmitting.transmit line-range.inRange senderInRange receiverInRange formatOf statusByte inRange settled writeRefusal readRegister read writeRegister write pinned setPins transmitTick transmit
-sends-late = written-sent (setUp 77) 65 refl late refl refl refl refl refl between refl refl
+sends-late = written-sent (chipWith 77) 65 refl late refl refl refl refl refl between refl refl
 
 -- 66 written with the first level of 65 behind it, and transmit disabled for a while: the other nine levels of 65, then the ten of 66
 abbrev twoWritten : Device
-twoWritten = after (setUp 77) (Write 0 65 ∷ Transmit ∷ Write 0 66 ∷ [])
+twoWritten = after (chipWith 77) (Write 0 65 ∷ Transmit ∷ Write 0 66 ∷ [])
 
 abbrev nineLeft : List Call
 nineLeft = Transmit ∷ Transmit ∷ Transmit ∷ Write 3 4 ∷ Transmit ∷ Transmit ∷ Read 1 ∷ Transmit ∷ Transmit ∷ Write 3 5 ∷ Transmit ∷ Transmit ∷ []
@@ -63,11 +63,11 @@ sends-both = waiting-follows (externalFormat 77) 65 1 66 twoWritten refl (omega 
 abbrev heard : List Call
 heard = Receive 1 ∷ Read 1 ∷ Receive 0 ∷ Transmit ∷ Receive 2 ∷ Receive 1 ∷ Write 3 7 ∷ Read 4 ∷ SetPins 1 0 0 ∷ Receive 1 ∷ []
 
-hears : arrivedIn (setUp 65) 0 heard ≡ reading (externalFormat 65) (samples heard)
+hears : arrivedIn (chipWith 65) 0 heard ≡ reading (externalFormat 65) (samples heard)
 unfolding part sample link-transmitting.transmit link-hearing.receive line-range.inRange senderInRange receiverInRange formatOf statusByte inRange settled writeRefusal readRegister read writeRegister write pinned setPins transmitTick transmit receiveTick receive
 hears =
     let on : (d : Device) → listening d ≡ true → receiveFormat (d .registers) ≡ externalFormat 65 → Listens (externalFormat 65) d = λ d l f. record { live = l; format = f } in
-    arrivals-are-the-reading (externalFormat 65) (setUp 65) heard refl refl
+    arrivals-are-the-reading (externalFormat 65) (chipWith 65) heard refl refl
     (on _ refl refl, (on _ refl refl, (on _ refl refl, (on _ refl refl, (on _ refl refl, (on _ refl refl, (on _ refl refl, (on _ refl refl, (on _ refl refl, (on _ refl refl, on _ refl refl))))))))))
 
 -- a command with bit 4, a mode 2 with bits 7-6, the character 5 that comes and is read, a mode read, and two calls that are refused

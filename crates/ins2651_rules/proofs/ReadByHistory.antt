@@ -3,21 +3,15 @@
 use Prim.Native.Nat.{ℕ, zero, suc, _≤_}
 use native.Mathlib.Omega.{arith}
 use mathlib.Core.Path.{_≡_, refl, sym, ap, ap₂, subst, _∙_}
-use mathlib.Core.Bool.{Bool, true, false, cond, _||_}
+use mathlib.Core.Bool.{Bool, true, cond, _||_}
 use mathlib.Core.List.{List, [], _∷_}
 use lib.Dec.{eqb}
 use borrow.Author.Tests.{eq-eqb, ne-eqb}
-use Rattle.line_rules.specs.declared.Format.{Format}
-use Rattle.line_rules.specs.declared.Heard.{Heard}
-use Rattle.line_rules.specs.declared.Heard.the-variants.{Nothing, Character}
-use Rattle.line_rules.specs.declared.Sampled.{Sampled}
 use Rattle.line_rules.specs.Sending.{on}
-use Rattle.line_rules.specs.Receiving.{sample}
 use Rattle.line_rules.proofs.Choice.{either}
 use Rattle.link_rules.specs.declared.ReceiverHalf.{ReceiverHalf}
-use Rattle.link_rules.specs.declared.Received.{Received}
-use Rattle.link_rules.specs.Parts.{dropped}
-use Rattle.link_rules.specs.Hearing.{characterFormat, stepped, brought, afterSample, receive}
+use Rattle.link_rules.specs.Hearing.{arrivedOr}
+use Rattle.link_rules.proofs.Halves.{character-held}
 use Rattle.ins2651_rules.specs.declared.Registers.{Registers}
 use Rattle.ins2651_rules.specs.declared.Device.{Device}
 use Rattle.ins2651_rules.specs.declared.Outcome.{Outcome}
@@ -32,7 +26,7 @@ use Rattle.ins2651_rules.specs.Runs.{Call, Reset, Read, Write, SetPins, 
 use Rattle.ins2651_rules.specs.Rows.{refusal}
 use Rattle.ins2651_rules.specs.History.{reads, Happened, plainly, happened, history, statusBy}
 use Rattle.ins2651_rules.specs.Pointers.{writesAddress, putsBack, modePointer}
-use Rattle.ins2651_rules.specs.ReadHistory.{arrivedOr, characterBy, modeTurn, modeBy, withoutBit4, commandBy, byteBy}
+use Rattle.ins2651_rules.specs.ReadHistory.{characterBy, modeTurn, modeBy, withoutBit4, commandBy, byteBy}
 use Rattle.ins2651_rules.proofs.Settled.{settled-is, reset-in}
 use Rattle.ins2651_rules.proofs.Done.{done-write, done-receive}
 use Rattle.ins2651_rules.proofs.Refused.{write-address}
@@ -106,19 +100,6 @@ command-put v = omega arith
 command-keeps : (h : ReceiverHalf) (v : ℕ) → receiverCommanded h v .holding ≡ h .holding
 command-keeps h v = either (λ (k : ReceiverHalf). k .holding ≡ h .holding) (receiveEnable v) refl refl
 
--- an arrival enters RHR, and no other tick changes it
-brought-put : (r : ReceiverHalf) (h : Heard) → brought r h .half .holding ≡ arrivedOr (r .holding) (brought r h .heard)
-brought-put r Nothing = refl
-brought-put r (Character a) = refl
-
-character-put : (r : ReceiverHalf) (live : Bool) (f : Format) (x : Bool) → receive r live f x .half .holding ≡ arrivedOr (r .holding) (receive r live f x .heard)
-unfolding receive
-character-put r live f x =
-    let o : Sampled = sample (characterFormat r f) (r .state) x in
-    either (λ (k : Received). k .half .holding ≡ arrivedOr (r .holding) (k .heard)) live
-    {x = afterSample r (characterFormat r f) o} {y = record { half = dropped r; heard = Nothing; overrun = false }}
-    (brought-put (stepped r (characterFormat r f) (o .next)) (o .heard)) refl
-
 -- == a device that shows what happened before ==
 
 module _ (d : Device) (es : List Happened) (a : Shows d es) where
@@ -135,7 +116,7 @@ module _ (d : Device) (es : List Happened) (a : Shows d es) where
   receive-back : (x : Bool) → back (receiveTick d x) ≡ putCharacter (arrivedOr (characterBy es) (received d x .heard)) (backBy es)
   unfolding receiveTick
   receive-back x =
-      alike (character-put (d .receiver) (listening d) (receiveFormat (d .registers)) x) refl refl refl
+      alike (character-held (d .receiver) (listening d) (receiveFormat (d .registers)) x) refl refl refl
       ∙ ap (λ (b : Back). putCharacter (arrivedOr (b .character) (received d x .heard)) b) (a .holds)
 
   -- a mode read gives the register whose turn it is

@@ -5,10 +5,12 @@ use mathlib.Core.Path.{_≡_, refl, sym, ap, _∙_}
 use mathlib.Core.Bool.{Bool, true, false, cond, _&&_}
 use mathlib.Core.List.{[], _∷_}
 use lib.Dec.{eqb}
+use lib.ListN.{replicate}
 use Rattle.line_rules.specs.Sending.{bit, on}
 use Rattle.link_rules.specs.declared.Sent.{Sent}
 use Rattle.link_rules.specs.declared.Received.{Received}
-use Rattle.link_rules.specs.Parts.{withGuard, dropped, emptied}
+use Rattle.line_rules.specs.Receiving.{waiting}
+use Rattle.link_rules.specs.Parts.{noFrame, withGuard, dropped, emptied}
 use Rattle.link_rules.specs.Transmitting.{markTick}
 use Rattle.link_rules.specs.Hearing as link-hearing
 use Rattle.link_rules.proofs.Halves.{transmit-idle, receive-off}
@@ -21,7 +23,7 @@ use Rattle.ins2651_rules.specs.Refusals.{commandRefusal, writeRefusal}
 use Rattle.ins2651_rules.specs.RegisterReads.{readRegister}
 use Rattle.ins2651_rules.specs.RegisterWrites.{stored, writeRegister}
 use Rattle.ins2651_rules.specs.Ticks.{sent, transmitTick, transmit, receiveTick}
-use Rattle.ins2651_rules.specs.Runs.{Read, Write, Transmit, Receive, next, said}
+use Rattle.ins2651_rules.specs.Runs.{Reset, Read, Write, Transmit, Receive, next, said}
 use Rattle.ins2651_rules.specs.Rows.{refusal}
 use Rattle.ins2651_rules.proofs.Settled.{settled-is}
 use Rattle.ins2651_rules.proofs.Done.{done-read, does-write, does-receive}
@@ -64,6 +66,25 @@ unfolding transmit transmitTick
 nothing-starts d h s t =
     let e : sent (settled d) ≡ markTick (d .sender) = ap sent (settled-is d h) ∙ transmit-idle (d .sender) (mayStart d) (breakOn d) (sendFormat (d .registers)) t s in
     record { level = ap (λ (o : Sent). bit (o .level)) e; sender = ap (λ (o : Sent). o .half) e }
+
+-- == reset ==
+
+pub record JustReset (d : Device) : Type 0 where
+  pub registers : d .registers .mode1 ∷ d .registers .mode2 ∷ d .registers .command ∷ d .registers .syn1 ∷ d .registers .syn2 ∷ d .registers .dle ∷ [] ≡ replicate 6 0
+  pub unset : d .registers .accepted ≡ 0
+  pub pointers : d .registers .modes ∷ d .registers .syns ∷ [] ≡ replicate 2 0
+  pub holding : d .sender .full ∷ d .receiver .unread ∷ [] ≡ replicate 2 0
+  pub gives : d .receiver .holding ≡ 0
+  pub frame : d .sender .frame ≡ noFrame
+  pub guard : d .sender .guard ≡ 0
+  pub receiver : d .receiver .state ≡ waiting
+  pub inputs : d .pins .dsr ∷ d .pins .dcd ∷ d .pins .cts ∷ [] ≡ replicate 3 1
+  pub flags : d .flags .framing ∷ d .flags .overrun ∷ d .flags .parity ∷ d .flags .empty ∷ d .flags .change ∷ [] ≡ replicate 5 0
+
+-- whatever the device was: every register clear, both holding registers empty, no frame, guard or character under way, a wait for a 1, inputs high
+pub reset-clears : (d : Device) → JustReset (next d Reset)
+reset-clears d =
+    record { registers = refl; unset = refl; pointers = refl; holding = refl; gives = refl; frame = refl; guard = refl; receiver = refl; inputs = refl; flags = refl }
 
 -- == what drops a character ==
 

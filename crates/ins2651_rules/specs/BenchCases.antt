@@ -15,8 +15,8 @@ use Rattle.ins2651_rules.specs.Runs.{Call, Read, Write, SetPins, Transmi
 use Rattle.ins2651_rules.specs.Line.{levelsSent, arrivedIn}
 
 -- reset, mode 1, mode 2 of 0 (external clocks), transmit and receive enabled, pins low
-abbrev pub setUp : ℕ → Device
-setUp mode1 = after resetDevice (Write 2 mode1 ∷ Write 2 0 ∷ Write 3 5 ∷ SetPins 0 0 0 ∷ [])
+abbrev pub chipWith : ℕ → Device
+chipWith mode1 = after resetDevice (Write 2 mode1 ∷ Write 2 0 ∷ Write 3 5 ∷ SetPins 0 0 0 ∷ [])
 
 -- its format: no clock is internal
 abbrev pub externalFormat : ℕ → Format
@@ -51,8 +51,8 @@ pub data Finding : Type 0 where
 
 -- == the chip's answer ==
 
-abbrev pub ticks : List Bool → List Call
-ticks xs = map (λ (x : Bool). Receive (bit x)) xs
+abbrev pub receiveTicks : List Bool → List Call
+receiveTicks xs = map (λ (x : Bool). Receive (bit x)) xs
 
 abbrev pub asCame : Arrived → Came
 asCame a = record { at = a .at; value = a .arrival .value; flags = 32 * bit (a .arrival .framing) + 8 * bit (a .arrival .parity) }
@@ -60,20 +60,20 @@ asCame a = record { at = a .at; value = a .arrival .value; flags = 32 * bit (a .
 abbrev pub recorded : Device → List Bool → Recorded
 recorded d xs =
     record {
-      came = map asCame (arrivedIn d 0 (ticks xs));
-      status = read (after d (ticks xs)) 1 .value;
-      rhr = read (next (after d (ticks xs)) (Read 1)) 0 .value;
+      came = map asCame (arrivedIn d 0 (receiveTicks xs));
+      status = read (after d (receiveTicks xs)) 1 .value;
+      rhr = read (next (after d (receiveTicks xs)) (Read 1)) 0 .value;
     }
 
 -- each recording after the one before, with both reads between
 abbrev pub inTurn : Device → List (List Bool) → List Recorded
 inTurn d [] = []
-inTurn d (xs ∷ more) = recorded d xs ∷ inTurn (after (after d (ticks xs)) (Read 1 ∷ Read 0 ∷ [])) more
+inTurn d (xs ∷ more) = recorded d xs ∷ inTurn (after (after d (receiveTicks xs)) (Read 1 ∷ Read 0 ∷ [])) more
 
 abbrev pub found : Question → Finding
-found (Sends mode1 c) = Levels (levelsSent (after (setUp mode1) (Write 0 c ∷ [])) (replicate (frameLength (externalFormat mode1)) Transmit))
+found (Sends mode1 c) = Levels (levelsSent (after (chipWith mode1) (Write 0 c ∷ [])) (replicate (frameLength (externalFormat mode1)) Transmit))
 found (Lasts mode1) = Ticks (frameLength (externalFormat mode1)) (stopSample (externalFormat mode1))
-found (Hears mode1 recordings) = Recordings (inTurn (setUp mode1) recordings)
+found (Hears mode1 recordings) = Recordings (inTurn (chipWith mode1) recordings)
 
 -- == the table ==
 

@@ -4,18 +4,12 @@ use Prim.Native.Nat.{ℕ, _+_, _*_, _/_, _%_}
 use mathlib.Core.Bool.{Bool, cond, _&&_}
 use mathlib.Core.List.{List, [], _∷_}
 use lib.Dec.{eqb}
-use Rattle.line_rules.specs.declared.Heard.{Heard}
-use Rattle.line_rules.specs.declared.Heard.the-variants.{Nothing, Character}
+use Rattle.link_rules.specs.Hearing.{arrivedOr}
 use Rattle.ins2651_rules.specs.Runs.{Call, byCall, otherwise, atReset, atWrite}
 use Rattle.ins2651_rules.specs.History.{resets, Happened, statusBy}
 use Rattle.ins2651_rules.specs.Pointers.{modePointer}
 
 -- == address 0 ==
-
--- the value that arrived, or as before
-abbrev pub arrivedOr : ℕ → Heard → ℕ
-arrivedOr before Nothing = before
-arrivedOr before (Character a) = a .value
 
 -- RHR gives again the character it last held, read or not, 0 after reset: the last arrival
 abbrev pub characterBy : List Happened → ℕ

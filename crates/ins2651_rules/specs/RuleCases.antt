@@ -88,6 +88,8 @@ sendingCases =
     ∷ nothingStarts (prepared 77 0 ++ SetPins 0 0 1 ∷ []) 5 (Write 3 5 ∷ SetPins 0 0 0 ∷ [])
     ∷ nothingStarts (prepared 77 0 ++ Write 3 4 ∷ []) 4 (Write 3 5 ∷ [])
     ∷ nothingStarts (Write 3 5 ∷ SetPins 0 0 0 ∷ []) 5 (Write 3 5 ∷ Write 2 77 ∷ [])
+    -- a reset takes CTS as high
+    ∷ nothingStarts (Write 2 77 ∷ Write 3 5 ∷ []) 5 (Write 3 5 ∷ SetPins 0 0 0 ∷ [])
     ∷ []
 
 -- == the empty-mark, status bit 2; 193 is DSR and DCD low and bit 0 ==

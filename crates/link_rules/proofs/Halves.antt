@@ -15,7 +15,7 @@ use Rattle.line_rules.specs.declared.Heard.the-variants.{Nothing, Character}
 use Rattle.line_rules.specs.declared.Sampled.{Sampled}
 use Rattle.line_rules.specs.Sending.{on, parityBits, frameLength}
 use Rattle.line_rules.specs.Range.{Bounds}
-use Rattle.line_rules.specs.Receiving.{sample}
+use Rattle.line_rules.specs.Receiving.{waiting, sample}
 use Rattle.line_rules.proofs.Bits.{at-most-one}
 use Rattle.link_rules.specs.declared.Frame.{Frame}
 use Rattle.link_rules.specs.declared.SenderHalf.{SenderHalf}
@@ -25,7 +25,7 @@ use Rattle.link_rules.specs.declared.Sent.{Sent}
 use Rattle.link_rules.specs.Parts.{noFrame, noFormat, dropped}
 use Rattle.link_rules.specs.Transmitting.{nextPlace, frameNext, frameTick, beginTick, breakTick, markTick, transmit}
 use Rattle.line_rules.proofs.Choice.{either}
-use Rattle.link_rules.specs.Hearing.{underWay, characterFormat, stepped, arrives, brought, hear, receive}
+use Rattle.link_rules.specs.Hearing.{underWay, characterFormat, stepped, arrives, arrivedOr, brought, hear, receive}
 
 -- == the sender ==
 
@@ -100,6 +100,14 @@ brought-overrun : (r : ReceiverHalf) (h : Heard) → brought r h .overrun ≡ (a
 brought-overrun r Nothing = refl
 brought-overrun r (Character a) = refl
 
+brought-held : (r : ReceiverHalf) (h : Heard) → brought r h .half .holding ≡ arrivedOr (r .holding) (brought r h .heard)
+brought-held r Nothing = refl
+brought-held r (Character a) = refl
+
+-- what a tick that is off leaves: nothing arrives
+abbrev unheard : ReceiverHalf → Received
+unheard r = record { half = dropped r; heard = Nothing; overrun = false }
+
 module _ (r : ReceiverHalf) (live : Bool) (f : Format) (x : Bool) where
   abbrev tick : Received
   tick = receive r live f x
@@ -107,26 +115,44 @@ module _ (r : ReceiverHalf) (live : Bool) (f : Format) (x : Bool) where
   abbrev sampled : Sampled
   sampled = sample (characterFormat r f) (r .state) x
 
+  -- what holds of all that a sample brings, and where none is looked at
+  of-tick : (P : Received → Type 0) → ((q : ReceiverHalf) (h : Heard) → q .holding ≡ r .holding → q .unread ≡ r .unread → P (brought q h)) → P (unheard r) → P tick
+  unfolding receive
+  of-tick P p q = either P live {x = hear r (characterFormat r f) x} {y = unheard r} (p (stepped r (characterFormat r f) (sampled .next)) (sampled .heard) refl refl) q
+
   -- an arrival fills the register ..
   pub unread-after : on (tick .half .unread) ≡ cond (any (tick .heard)) true (on (r .unread))
-  unfolding receive
   unread-after =
-      either (λ (o : Received). on (o .half .unread) ≡ cond (any (o .heard)) true (on (r .unread))) live
-      {x = hear r (characterFormat r f) x} {y = record { half = dropped r; heard = Nothing; overrun = false }}
-      (brought-unread (stepped r (characterFormat r f) (sampled .next)) (sampled .heard)) refl
+      of-tick (λ (o : Received). on (o .half .unread) ≡ cond (any (o .heard)) true (on (r .unread)))
+      (λ q h _ u. brought-unread q h ∙ ap (λ (n : ℕ). cond (any (brought q h .heard)) true (on n)) u) refl
+
+  -- .. with its value, whether it was full or not ..
+  pub character-held : tick .half .holding ≡ arrivedOr (r .holding) (tick .heard)
+  character-held =
+      of-tick (λ (o : Received). o .half .holding ≡ arrivedOr (r .holding) (o .heard))
+      (λ q h c _. brought-held q h ∙ ap (λ (n : ℕ). arrivedOr n (brought q h .heard)) c) refl
 
   -- .. and tells whether it found it unread
   pub overrun-told : tick .overrun ≡ (any (tick .heard) && on (r .unread))
-  unfolding receive
   overrun-told =
-      either (λ (o : Received). o .overrun ≡ (any (o .heard) && on (r .unread))) live
-      {x = hear r (characterFormat r f) x} {y = record { half = dropped r; heard = Nothing; overrun = false }}
-      (brought-overrun (stepped r (characterFormat r f) (sampled .next)) (sampled .heard)) refl
+      of-tick (λ (o : Received). o .overrun ≡ (any (o .heard) && on (r .unread)))
+      (λ q h _ u. brought-overrun q h ∙ ap (λ (n : ℕ). any (brought q h .heard) && on n) u) refl
 
 -- a tick that is off drops the character under way, waits for a 1 and brings nothing
 pub receive-off : (r : ReceiverHalf) (f : Format) (x : Bool) → receive r false f x ≡ record { half = dropped r; heard = Nothing; overrun = false }
 unfolding receive
 receive-off r f x = refl
+
+pub record Dropped (r q : ReceiverHalf) : Type 0 where
+  pub state : q .state ≡ waiting
+  pub format : q .format ≡ noFormat
+  pub holding : q .holding ≡ r .holding
+  pub unread : q .unread ≡ r .unread
+
+-- .. and leaves the holding register and its mark
+pub off-leaves : (r : ReceiverHalf) (f : Format) (x : Bool) → Dropped r (receive r false f x .half)
+unfolding receive
+off-leaves r f x = record { state = refl; format = refl; holding = refl; unread = refl }
 
 -- a character under way is read in the format of its tick 0, whatever the tick is told
 pub receive-under : (r : ReceiverHalf) (f : Format) (x : Bool) → underWay (r .state) ≡ true → receive r true f x ≡ hear r (r .format) x

@@ -40,6 +40,11 @@ abbrev pub arrives : (Arrival → Bool) → Heard → Bool
 arrives p Nothing = false
 arrives p (Character a) = p a
 
+-- the value of an arrival, or what was before it
+abbrev pub arrivedOr : ℕ → Heard → ℕ
+arrivedOr before Nothing = before
+arrivedOr before (Character a) = a .value
+
 -- what the sample brought, and whether it found the register unread
 abbrev pub brought : ReceiverHalf → Heard → Received
 brought r Nothing = record { half = r; heard = Nothing; overrun = false }
