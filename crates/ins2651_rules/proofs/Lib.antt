@@ -6,6 +6,7 @@ pub mod Refused
 pub mod InRange
 pub mod Outside
 pub mod Leaves
+pub mod WritesLeave
 pub mod FlagsStay
 pub mod FrameWhole
 pub mod CharacterSent

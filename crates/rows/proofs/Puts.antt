@@ -1,6 +1,6 @@
 -- Text that is stored piece behind piece.
 -- Assumes nothing.
-use mathlib.Core.Path.{_≡_, refl, sym, _∙_, ap, subst}
+use mathlib.Core.Path.{_≡_, refl, sym, _∙_, ap, ap₂, subst}
 use mathlib.Core.List.{List, [], _∷_, _++_}
 use mathlib.Core.Bool.{Bool, true, false, cond}
 use Prim.Native.Nat.{ℕ, suc, _+_, _-_, _≤_, _<_}
@@ -8,7 +8,7 @@ use borrow.Author.Tests.{le-leb, lt-leb, leb-true, leb-false}
 use lib.Dec.{leb}
 use native.Mathlib.Omega.{arith}
 use native.Mathlib.Nat.{add-zero, add-suc, suc-add}
-use lib.ListN.{length, take, drop, length-append}
+use lib.ListN.{length, take, drop, length-append, take-append-drop}
 use lib.Seq.{sets, length-sets, sets-eq, take-append-seam, drop-append-seam}
 use Rattle.rows.specs.Text.{Put, Spoke, whereRoom}
 
@@ -46,6 +46,18 @@ spoke {l} {m} {t} {r} p h =
       within = omega (arith, put-length p);
       counts = rw f n;
     }
+
+-- the place is the text's length ..
+spoke-at : {l m t : List ℕ} {r : ℕ} → Spoke l t m r → r ≡ length t
+spoke-at p = p .counts ∙ ap length (p .said)
+
+-- .. and the buffer is the text, then what stood behind it before
+spoke-buffer : {l m t : List ℕ} {r : ℕ} → Spoke l t m r → m ≡ t ++ drop (length t) l
+spoke-buffer {l} {m} {t} {r} p = sym (take-append-drop r m) ∙ ap₂ _++_ (p .said) (p .rest) ∙ ap (λ (k : ℕ). t ++ drop k l) (spoke-at p)
+
+-- two outcomes for the same buffer before and the same text are one
+pub spoke-one : {before text a b : List ℕ} {r s : ℕ} → Spoke before text a r → Spoke before text b s → (r ≡ s) × (a ≡ b)
+spoke-one p q = (spoke-at p ∙ sym (spoke-at q), spoke-buffer p ∙ sym (spoke-buffer q))
 
 -- == room for a line ==
 

@@ -1,6 +1,6 @@
 -- A piece taken byte by byte: how long a byte's text may be, and what stands after some of the bytes.
 -- Assumes nothing.
-use mathlib.Core.Path.{_≡_, refl, sym, _∙_, ap}
+use mathlib.Core.Path.{_≡_, refl, sym, _∙_, ap, subst}
 use mathlib.Core.List.{List, [], _∷_, _++_, append-assoc, append-nil}
 use mathlib.Core.Bool.{Bool, true, false}
 use Prim.Native.Nat.{ℕ, suc, _+_, _-_, _≤_, _<_}
@@ -18,7 +18,7 @@ use Rattle.rows.specs.Text.{Put, Spoke, rowText, countsText}
 use Rattle.session_rules.specs.Calls.{rowOf, saidText}
 use Rattle.session_rules.specs.Bytes.{goesOn, heldReply, after, said, afterAll, saidAll, taken}
 use Rattle.rows.proofs.Decimals.{row-short}
-use Rattle.rows.proofs.Puts.{behind, none-put, put-length, spoke}
+use Rattle.rows.proofs.Puts.{behind, none-put, put-length, spoke, spoke-one}
 
 -- == how long a text may be ==
 
@@ -76,6 +76,14 @@ pub record Done (s : Session) (piece out₀ out : List ℕ) (t : Session) (used 
   pub used-is : used ≡ taken s piece (length out₀)
   pub state : t ≡ afterAll s (take used piece)
   pub text : Spoke out₀ (saidAll s (take used piece)) out at
+
+-- two such answers to the same call are one: the bytes taken, the session, the place behind the text, the buffer
+pub feed-one : {s t u : Session} {piece out₀ a b : List ℕ} {m n i j : ℕ} → Done s piece out₀ a t m i → Done s piece out₀ b u n j
+    → (m ≡ n) × (t ≡ u) × (i ≡ j) × (a ≡ b)
+feed-one {s} {piece = piece} {out₀ = out₀} {b = b} {j = j} p q =
+    let e = p .used-is ∙ sym (q .used-is) in
+    let w = spoke-one (p .text) (subst (λ (k : ℕ). Spoke out₀ (saidAll s (take k piece)) b j) (sym e) (q .text)) in
+    (e, p .state ∙ ap (λ (k : ℕ). afterAll s (take k piece)) e ∙ sym (q .state), w .0, w .1)
 
 module _ {s t : Session} {piece out₀ out : List ℕ} {used at : ℕ} (g : Going s piece out₀ out t used at) where
   -- one byte more
