@@ -1,7 +1,7 @@
 -- Nothing else moves, for writes: what an accepted write changes, one law an address, and that it changes nothing else.
 -- Bits of a command are told by their weights alone.
 -- Assumes nothing.
-use Prim.Native.Nat.{ℕ, _+_, _*_, _/_, _%_, _<_}
+use Prim.Native.Nat.{ℕ, _<_}
 use native.Mathlib.Omega.{arith}
 use mathlib.Core.Path.{_≡_, refl, sym, subst}
 use mathlib.Core.Bool.{true, false}
@@ -21,6 +21,7 @@ use Rattle.ins2651_rules.specs.Refusals.{writeRefusal}
 use Rattle.ins2651_rules.specs.RegisterWrites.{writeRegister}
 use Rattle.ins2651_rules.specs.Runs.{Write, next}
 use Rattle.ins2651_rules.specs.Rows.{refusal}
+use Rattle.ins2651_rules.specs.ReadHistory.{withoutBit4}
 use Rattle.ins2651_rules.proofs.Done.{done-write}
 use Rattle.ins2651_rules.proofs.Leaves.{SameErrors}
 
@@ -172,7 +173,7 @@ pub record SwitchedOff (r q : ReceiverHalf) : Type 0 where
 
 -- all bits of the value but bit 4 are stored. Bit 4 is reset error, bit 0 transmit enable, bit 2 receive enable
 pub record CommandWritten (v : ℕ) (d e : Device) : Type 0 where
-  pub command : e .registers .command ≡ v / 32 * 32 + v % 16
+  pub command : e .registers .command ≡ withoutBit4 v
   pub errors-cleared : has 16 v ≡ true → NoErrors (e .flags)
   pub errors-kept : has 16 v ≡ false → SameErrors (d .flags) (e .flags)
   pub empty-cleared : has 1 v ≡ false → e .flags .empty ≡ 0

@@ -150,10 +150,10 @@ abbrev hearingCases : List Case
 hearingCases =
     -- heard, and read; the change-mark of the set-up is shown once
     onlyReads (prepared 113 0 ++ Read 1 ∷ hears good ++ Read 1 ∷ Read 0 ∷ Read 1 ∷ []) (197 ∷ 195 ∷ 1 ∷ 193 ∷ [])
-    -- nothing is heard while receive is off, DCD high, or mode unset
+    -- nothing is heard while receive is off, DCD high, or mode 1 unset, though mode 2 makes the factor 16
     ∷ onlyReads (prepared 113 0 ++ Write 3 1 ∷ Read 1 ∷ hears good ++ Read 1 ∷ []) (197 ∷ 193 ∷ [])
     ∷ onlyReads (prepared 113 0 ++ SetPins 0 1 0 ∷ Read 1 ∷ hears good ++ Read 1 ∷ []) (133 ∷ 129 ∷ [])
-    ∷ onlyReads (Write 3 5 ∷ SetPins 0 0 0 ∷ Read 1 ∷ hears good ++ Read 1 ∷ []) (197 ∷ 193 ∷ [])
+    ∷ onlyReads (Read 2 ∷ Write 2 16 ∷ Write 3 5 ∷ SetPins 0 0 0 ∷ Read 1 ∷ hears (1 ∷ spaces 16 ++ marks 96) ++ Read 1 ∷ []) (0 ∷ 197 ∷ 193 ∷ [])
     -- one tick of that drops the character under way, and its 1 is no mark: the 0 after it is no start
     ∷ onlyReads (prepared 113 0 ++ hears (1 ∷ 0 ∷ 1 ∷ 0 ∷ []) ++ SetPins 0 1 0 ∷ hears (1 ∷ []) ++ SetPins 0 0 0 ∷ Read 1 ∷ hears (0 ∷ 0 ∷ 0 ∷ 1 ∷ 1 ∷ 1 ∷ 1 ∷ 1 ∷ []) ++ Read 1 ∷ []) (197 ∷ 193 ∷ [])
     -- a command that leaves receive off empties RHR, and what it held is given again

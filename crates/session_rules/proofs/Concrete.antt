@@ -19,7 +19,7 @@ use Rattle.ins2651_rules.specs.Pinning.{pinned, setPins}
 use Rattle.ins2651_rules.specs.Ticks.{transmitTick, transmit, receiveTick, receive}
 use Rattle.joined_rules.specs.Joining.{tick}
 use Rattle.fields.specs.Parted.{fieldOf, fieldsOf}
-use Rattle.session_rules.specs.Ascii.{bytes}
+use Rattle.fields.specs.Ascii.{bytes}
 use Rattle.records.specs.Records.{two, three, four, five}
 use Rattle.session_rules.specs.Calls.{obey, lineReply, saidText}
 use Rattle.rows.specs.Text.{decimal, refusalText, valueText, countsText, rowText}
@@ -60,3 +60,13 @@ long =
 pub shapes : answerText (mended ++ long) ≡ bytes "R\tA\t3\t0\nE\t2\t6\nE\t3\t6\nE\t4\t6\nE\t5\t6\nE\t6\t6\nE\t7\t6\nE\t8\t6\nE\t9\t6\nE\t10\t7\nR\tB\t3\t0\nN\t11\t9\n"
 unfolding answerText linesTaken linesOf two three four five obey lineReply decimal refusalText valueText countsText rowText saidText fieldOf fieldsOf part oddOnes parityBit sample link-transmitting.transmit link-hearing.receive line-range.inRange senderInRange receiverInRange formatOf statusByte inRange settled writeRefusal readRegister read writeRegister write pinned setPins transmitTick transmit receiveTick receive tick
 shapes = refl
+
+-- a reset, of one unit alone; a count, a level and a value above their limits; the order of the three levels; no ticks at all
+abbrev others : List ℕ
+others =
+    bytes "W\tA\t2\t77\nW\tB\t3\t1\nZ\tA\nR\tA\t2\nR\tB\t3\nL\t65536\nP\tA\t256\t0\t0\nW\tB\t0\t256\n"
+    ++ bytes "P\tA\t1\t0\t0\nR\tA\t1\nP\tB\t0\t1\t0\nR\tB\t1\nL\t0\n"
+
+pub limits : answerText others ≡ bytes "R\tA\t2\t0\nR\tB\t3\t1\nE\t6\t6\nE\t7\t6\nE\t8\t6\nR\tA\t1\t68\nR\tB\t1\t133\nN\t13\t3\n"
+unfolding answerText linesTaken linesOf two three four five obey lineReply decimal refusalText valueText countsText rowText saidText fieldOf fieldsOf part oddOnes parityBit sample link-transmitting.transmit link-hearing.receive line-range.inRange senderInRange receiverInRange formatOf statusByte inRange settled writeRefusal readRegister read writeRegister write pinned setPins transmitTick transmit receiveTick receive tick
+limits = refl

@@ -4,4 +4,3 @@ pub mod Rows
 pub mod Steps
 pub mod Bytes
 pub mod Offers
-pub mod Ascii
