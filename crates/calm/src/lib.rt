@@ -117,7 +117,7 @@ fn is_no_format(f: Format) -> bool
     (f.factor == 0) & (f.length == 0) & (f.parity == 0) & (f.even == 0) & (f.stop == 0)
 }
 
-fn at_rest(s: Receiver) -> bool
+fn is_at_rest(s: Receiver) -> bool
     ensures { λ r. ⌜ r ≡ restInRange s ⌝ }
 {
     (s.countdown == 0) & (s.value == 0) & (s.wrong == 0) & (s.look == 0)
@@ -127,7 +127,7 @@ fn at_rest(s: Receiver) -> bool
 fn clear(r: ReceiverHalf) -> bool
     ensures { λ b. ⌜ b ≡ Calm.clear r ⌝ }
 {
-    is_no_format(r.format) & at_rest(r.state)
+    is_no_format(r.format) & is_at_rest(r.state)
 }
 
 fn receiver_calm(r: ReceiverHalf, live: bool, marks: bool) -> u16

@@ -25,7 +25,7 @@ endless t = cond t 65535 0
 
 -- == the sender ==
 
--- no frame is under way and nothing may start: no break, no guard, no character that waits. Its ticks send 1 and change nothing
+-- with no frame under way: no break and no waiting character that may start, and no guard. Its ticks send 1 and change nothing
 abbrev pub idle : SenderHalf → Bool → Bool → Bool
 idle s ready broken = not (ready && broken) && eqb (s .guard) 0 && not (ready && on (s .full))
 

@@ -239,8 +239,8 @@ module _ (cs : List Call) where
   abbrev now : Device
   now = after resetDevice cs
 
-  told : Agrees now (history resetDevice cs [])
-  told = along-history Agrees done-shown resetDevice cs [] reset-in (record { dsr = refl; dcd = refl; framing = refl; overrun = refl; parity = refl; empty = refl; change = refl; unread = refl; enabled = refl; waiting = refl })
+  agrees-now : Agrees now (history resetDevice cs [])
+  agrees-now = along-history Agrees done-shown resetDevice cs [] reset-in (record { dsr = refl; dcd = refl; framing = refl; overrun = refl; parity = refl; empty = refl; change = refl; unread = refl; enabled = refl; waiting = refl })
 
   -- a read of an address up to 3 is done, and answers the register's value
   pub read-says : (address v : ℕ) → address ≤ 3 → readRegister now address .value ≡ v → said now (Read address) ≡ record { refusal = 0; values = v ∷ [] }
@@ -251,7 +251,7 @@ module _ (cs : List Call) where
 
   pub status-there : readRegister now 1 .value ≡ statusBy (history resetDevice cs [])
   unfolding readRegister
-  status-there = status-is now (history resetDevice cs []) told
+  status-there = status-is now (history resetDevice cs []) agrees-now
 
   -- after any run from reset, a status read answers what the history says
   pub status-by-history : said now (Read 1) ≡ record { refusal = 0; values = statusBy (history resetDevice cs []) ∷ [] }

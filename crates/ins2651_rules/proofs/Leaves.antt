@@ -13,7 +13,7 @@ use Rattle.ins2651_rules.specs.declared.Registers.{Registers}
 use Rattle.ins2651_rules.specs.declared.Device.{Device}
 use Rattle.ins2651_rules.specs.declared.Answer.{Answer}
 use Rattle.ins2651_rules.specs.declared.Outcome.{Outcome}
-use Rattle.ins2651_rules.specs.Shape.{withRegisters, withReceiver, withChange}
+use Rattle.ins2651_rules.specs.Shape.{withRegisters, withReceiver, withModePointer, withSynPointer, withSyn1, withSyn2, withDle, withChange}
 use Rattle.ins2651_rules.specs.Ranges.{settled}
 use Rattle.ins2651_rules.specs.RegisterReads.{readRegister}
 use Rattle.ins2651_rules.specs.Pinning.{pinned}
@@ -22,14 +22,13 @@ use Rattle.ins2651_rules.specs.Runs.{Read, SetPins, Transmit, Receive, n
 use Rattle.ins2651_rules.specs.Rows.{refusal}
 use Rattle.ins2651_rules.proofs.Done.{done-read, done-pins, done-receive}
 
--- registers with other SYN bytes and other pointers
-abbrev pub withSyns : Registers → ℕ → ℕ → ℕ → ℕ → ℕ → Registers
-withSyns r a b c m s =
-    record { mode1 = r .mode1; mode2 = r .mode2; accepted = r .accepted; command = r .command; syn1 = a; syn2 = b; dle = c; modes = m; syns = s }
-
--- with other pointers alone
+-- registers with other pointers ..
 abbrev pub pointing : Registers → ℕ → ℕ → Registers
-pointing r m s = withSyns r (r .syn1) (r .syn2) (r .dle) m s
+pointing r m s = withSynPointer (withModePointer r m) s
+
+-- .. and with other SYN bytes too
+abbrev pub withSyns : Registers → ℕ → ℕ → ℕ → ℕ → ℕ → Registers
+withSyns r a b c m s = pointing (withDle (withSyn2 (withSyn1 r a) b) c) m s
 
 -- the three error flags
 pub record SameErrors (f g : Flags) : Type 0 where

@@ -48,7 +48,7 @@ sends-late : levelsSent (after (next (chipWith 77) (Write 0 65)) late) (Transmit
 unfolding link-transmitting.transmit line-range.inRange senderInRange receiverInRange formatOf statusByte inRange settled writeRefusal readRegister read writeRegister write pinned setPins transmitTick transmit
 sends-late = written-sent (chipWith 77) 65 refl late refl refl refl refl refl between refl refl
 
--- 66 written with the first level of 65 behind it, and transmit disabled for a while: the other nine levels of 65, then the ten of 66
+-- 66 is written after the first level of 65, and transmit is disabled for a while: the other nine levels of 65, then the ten of 66
 abbrev twoWritten : Device
 twoWritten = after (chipWith 77) (Write 0 65 ∷ Transmit ∷ Write 0 66 ∷ [])
 
@@ -59,16 +59,16 @@ sends-both : levelsSent twoWritten (nineLeft ++ Transmit ∷ between) ≡ map bi
 unfolding link-transmitting.transmit line-range.inRange senderInRange receiverInRange formatOf statusByte inRange settled writeRefusal readRegister read writeRegister write pinned setPins transmitTick transmit
 sends-both = waiting-follows (externalFormat 77) 65 1 66 twoWritten refl (omega arith) refl (record { full = refl; holding = refl }) nineLeft refl refl refl refl between refl refl
 
--- 65 is 5 bits at one tick a bit: a mark, a start and data with other calls between, some of them refused
+-- 65 is 5 bits at one tick a bit: a mark, a start, the data of 3 and a stop, with other calls between, some of them refused
 abbrev heard : List Call
-heard = Receive 1 ∷ Read 1 ∷ Receive 0 ∷ Transmit ∷ Receive 2 ∷ Receive 1 ∷ Write 3 7 ∷ Read 4 ∷ SetPins 1 0 0 ∷ Receive 1 ∷ []
+heard = Receive 1 ∷ Read 1 ∷ Receive 0 ∷ Transmit ∷ Receive 2 ∷ Receive 1 ∷ Write 3 7 ∷ Read 4 ∷ SetPins 1 0 0 ∷ Receive 1 ∷ Receive 0 ∷ Receive 0 ∷ Receive 0 ∷ Receive 1 ∷ []
 
 hears : arrivedIn (chipWith 65) 0 heard ≡ reading (externalFormat 65) (samples heard)
 unfolding part sample link-transmitting.transmit link-hearing.receive line-range.inRange senderInRange receiverInRange formatOf statusByte inRange settled writeRefusal readRegister read writeRegister write pinned setPins transmitTick transmit receiveTick receive
 hears =
     let on : (d : Device) → listening d ≡ true → receiveFormat (d .registers) ≡ externalFormat 65 → Listens (externalFormat 65) d = λ d l f. record { live = l; format = f } in
     arrivals-are-the-reading (externalFormat 65) (chipWith 65) heard refl refl
-    (on _ refl refl, (on _ refl refl, (on _ refl refl, (on _ refl refl, (on _ refl refl, (on _ refl refl, (on _ refl refl, (on _ refl refl, (on _ refl refl, (on _ refl refl, on _ refl refl))))))))))
+    (on _ refl refl, (on _ refl refl, (on _ refl refl, (on _ refl refl, (on _ refl refl, (on _ refl refl, (on _ refl refl, (on _ refl refl, (on _ refl refl, (on _ refl refl, (on _ refl refl, (on _ refl refl, (on _ refl refl, (on _ refl refl, on _ refl refl))))))))))))))
 
 -- a command with bit 4, a mode 2 with bits 7-6, the character 5 that comes and is read, a mode read, and two calls that are refused
 abbrev spoken : List Call

@@ -57,7 +57,7 @@ back d = backOf (d .registers) (d .receiver)
 abbrev backBy : List Happened → Back
 backBy es = bytes (characterBy es) (commandBy es) (modeBy 0 es) (modeBy 1 es)
 
--- the device shows what happened
+-- the bytes that can be read back are what the history tells
 record Shows (d : Device) (es : List Happened) : Type 0 where
   turn : d .registers .modes ≡ modeTurn es
   holds : back d ≡ backBy es

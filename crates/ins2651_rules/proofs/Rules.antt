@@ -10,7 +10,7 @@ use Rattle.line_rules.specs.Sending.{bit, on}
 use Rattle.link_rules.specs.declared.Sent.{Sent}
 use Rattle.link_rules.specs.declared.Received.{Received}
 use Rattle.line_rules.specs.Receiving.{waiting}
-use Rattle.link_rules.specs.Parts.{noFrame, withGuard, dropped, emptied}
+use Rattle.link_rules.specs.Parts.{noFormat, noFrame, withGuard, dropped, emptied}
 use Rattle.link_rules.specs.Transmitting.{markTick}
 use Rattle.link_rules.specs.Hearing as link-hearing
 use Rattle.link_rules.proofs.Halves.{transmit-idle, receive-off}
@@ -73,18 +73,19 @@ pub record JustReset (d : Device) : Type 0 where
   pub registers : d .registers .mode1 ∷ d .registers .mode2 ∷ d .registers .command ∷ d .registers .syn1 ∷ d .registers .syn2 ∷ d .registers .dle ∷ [] ≡ replicate 6 0
   pub unset : d .registers .accepted ≡ 0
   pub pointers : d .registers .modes ∷ d .registers .syns ∷ [] ≡ replicate 2 0
-  pub holding : d .sender .full ∷ d .receiver .unread ∷ [] ≡ replicate 2 0
-  pub gives : d .receiver .holding ≡ 0
+  pub empty : d .sender .full ∷ d .receiver .unread ∷ [] ≡ replicate 2 0
+  pub held : d .sender .holding ∷ d .receiver .holding ∷ [] ≡ replicate 2 0
   pub frame : d .sender .frame ≡ noFrame
   pub guard : d .sender .guard ≡ 0
   pub receiver : d .receiver .state ≡ waiting
+  pub format : d .receiver .format ≡ noFormat
   pub inputs : d .pins .dsr ∷ d .pins .dcd ∷ d .pins .cts ∷ [] ≡ replicate 3 1
   pub flags : d .flags .framing ∷ d .flags .overrun ∷ d .flags .parity ∷ d .flags .empty ∷ d .flags .change ∷ [] ≡ replicate 5 0
 
 -- whatever the device was: every register clear, both holding registers empty, no frame, guard or character under way, a wait for a 1, inputs high
 pub reset-clears : (d : Device) → JustReset (next d Reset)
 reset-clears d =
-    record { registers = refl; unset = refl; pointers = refl; holding = refl; gives = refl; frame = refl; guard = refl; receiver = refl; inputs = refl; flags = refl }
+    record { registers = refl; unset = refl; pointers = refl; empty = refl; held = refl; frame = refl; guard = refl; receiver = refl; format = refl; inputs = refl; flags = refl }
 
 -- == what drops a character ==
 

@@ -153,7 +153,7 @@ mode-written d v =
       others = record { pins = refl; sender = refl; receiver = refl; flags = refl };
     }
 
--- the register that the mode pointer names takes the value, and the pointer moves; mode 1 is then accepted: nothing else
+-- the register that the mode pointer names takes the value, and the pointer moves; with mode 1, one was accepted: nothing else
 pub mode-write-leaves : (d : Device) (v : ℕ) → refusal d (Write 2 v) ≡ 0 → ModeWritten v (settled d) (next d (Write 2 v))
 mode-write-leaves d v n = of-call (ModeWritten v) d 2 v n (mode-written (settled d) v)
 

@@ -55,7 +55,7 @@ clearingCommand v = eqb (commandRefusal v) 0 && commandClears v
 abbrev pub clearsErrors : Call → Bool
 clearsErrors c = resets c || commands clearingCommand c
 
--- a pin call, and its levels of DSR and DCD
+-- conditions on the DSR and DCD of a pin call
 abbrev pub dsrIsLow : ℕ → ℕ → Bool
 dsrIsLow dsr dcd = eqb dsr 0
 
@@ -131,7 +131,7 @@ abbrev pub enabledBy : List Happened → Bool
 enabledBy [] = false
 enabledBy (e ∷ es) = told (commands transmitEnable (e .call)) (resets (e .call) || commands anyCommand (e .call)) (enabledBy es)
 
--- .. and no character waits: none was written since reset or since a frame began
+-- .. and no character waits; one waits that was written since reset and since the last frame began
 abbrev pub waitingBy : List Happened → Bool
 waitingBy [] = false
 waitingBy (e ∷ es) = told (writesHolding (e .call)) (resets (e .call) || e .began) (waitingBy es)

@@ -26,7 +26,7 @@ ifTransmit c a b = byCall (atTransmit a (otherwise b)) c
 -- how many transmit ticks a list has
 abbrev pub transmits : List Call → ℕ
 transmits [] = 0
-transmits (c ∷ cs) = ifTransmit c (suc (transmits cs)) (transmits cs)
+transmits (c ∷ cs) = let rest = transmits cs in ifTransmit c (suc rest) rest
 
 -- the levels that they send
 abbrev pub levelsSent : Device → List Call → List ℕ
@@ -50,7 +50,7 @@ displaces c = resets c || writesHolding c
 abbrev pub begins : Device → Call → Bool
 begins d c = ifTransmit c (sent (settled d) .began) false
 
--- no call of a run is
+-- no call of a run begins a frame
 abbrev pub noneBegins : Device → List Call → Bool
 noneBegins d [] = true
 noneBegins d (c ∷ cs) = not (begins d c) && noneBegins (next d c) cs

@@ -20,7 +20,7 @@ addressAbove3 c = byCall (atRead (λ address. ltb 3 address) (atWrite (λ addres
 abbrev pub noLevel : Call → Bool
 noLevel c = byCall (atPins (λ dsr dcd cts. not (leb dsr 1 && leb dcd 1 && leb cts 1)) (atReceive (λ x. not (leb x 1)) (otherwise false))) c
 
--- a write of an address whose value is so
+-- a write whose address and value are so
 abbrev pub writes : (ℕ → ℕ → Bool) → Call → Bool
 writes p c = byCall (atWrite p (otherwise false)) c
 

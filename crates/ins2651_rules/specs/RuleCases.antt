@@ -14,36 +14,36 @@ use Rattle.ins2651_rules.specs.Line.{levelsSent}
 
 -- == a script ==
 
--- a call that is done, or refused with a number; transmit ticks, by the levels that they send; receive ticks, by the levels that they are given;
--- a read of an address, and its value
+-- a call that is done, or refused with a number; transmit ticks, by the levels that they send; receive ticks, by the levels that they are given,
+-- of which nothing is seen; a read of an address that is done, and its value
 pub data Step : Type 0 where
   Do : Call → Step
   Refused : Call → ℕ → Step
-  Sends : List ℕ → Step
-  Hears : List ℕ → Step
+  TxD : List ℕ → Step
+  RxD : List ℕ → Step
   Reads : (address value : ℕ) → Step
 
 abbrev pub calls : Step → List Call
 calls (Do c) = c ∷ []
 calls (Refused c n) = c ∷ []
-calls (Sends xs) = replicate (length xs) Transmit
-calls (Hears xs) = map Receive xs
+calls (TxD xs) = replicate (length xs) Transmit
+calls (RxD xs) = map Receive xs
 calls (Reads address v) = Read address ∷ []
 
 abbrev pub doneOr : Call → ℕ → Step
 doneOr c n = cond (eqb n 0) (Do c) (Refused c n)
 
 -- the step as the chip answers it
-abbrev pub answered : Device → Step → Step
-answered d (Do c) = doneOr c (said d c .refusal)
-answered d (Refused c n) = doneOr c (said d c .refusal)
-answered d (Sends xs) = Sends (levelsSent d (replicate (length xs) Transmit))
-answered d (Hears xs) = Hears xs
-answered d (Reads address v) = Reads address (read d address .value)
+abbrev pub asAnswered : Device → Step → Step
+asAnswered d (Do c) = doneOr c (said d c .refusal)
+asAnswered d (Refused c n) = doneOr c (said d c .refusal)
+asAnswered d (TxD xs) = TxD (levelsSent d (replicate (length xs) Transmit))
+asAnswered d (RxD xs) = RxD xs
+asAnswered d (Reads address v) = cond (eqb (read d address .refusal) 0) (Reads address (read d address .value)) (Refused (Read address) (read d address .refusal))
 
 abbrev pub played : Device → List Step → List Step
 played d [] = []
-played d (s ∷ ss) = let rest = played (after d (calls s)) ss in answered d s ∷ rest
+played d (s ∷ ss) = let rest = played (after d (calls s)) ss in asAnswered d s ∷ rest
 
 -- == words ==
 
@@ -69,8 +69,8 @@ overrun16 = 16
 abbrev parity8 : ℕ
 parity8 = 8
 
-abbrev mark4 : ℕ
-mark4 = 4
+abbrev eitherMark4 : ℕ
+eitherMark4 = 4
 
 abbrev unread2 : ℕ
 unread2 = 2
@@ -104,26 +104,26 @@ prepared mode1 mode2 = Do (Write 2 mode1) ∷ Do (Write 2 mode2) ∷ command ena
 -- a break of 3 ticks sends 0, then come exactly F ticks of 1, then the start of the character that waits
 abbrev afterBreak : ℕ → ℕ → List Step
 afterBreak mode1 F =
-    prepared mode1 0 ++ command withBreak ∷ thr 0 ∷ Sends (zeros 3) ∷ command enabled ∷ Sends (ones F ++ zeros 1) ∷ []
+    prepared mode1 0 ++ command withBreak ∷ thr 0 ∷ TxD (zeros 3) ∷ command enabled ∷ TxD (ones F ++ zeros 1) ∷ []
 
 -- a guard falls while CTS is high as well
 abbrev guardFalls : List Step
 guardFalls =
-    prepared 78 0 ++ command withBreak ∷ thr 0 ∷ Sends (zeros 1) ∷ command enabled
-    ∷ Do (SetPins 0 0 1) ∷ Sends (ones 16) ∷ lowersAll ∷ Sends (zeros 1) ∷ []
+    prepared 78 0 ++ command withBreak ∷ thr 0 ∷ TxD (zeros 1) ∷ command enabled
+    ∷ Do (SetPins 0 0 1) ∷ TxD (ones 16) ∷ lowersAll ∷ TxD (zeros 1) ∷ []
 
 -- a frame of 255 in 5 bits, no parity, lasts F(1+5)+S: right after that comes the start of the character that waits
 abbrev lasts : ℕ → ℕ → ℕ → ℕ → List Step
-lasts mode1 mode2 F S = prepared mode1 mode2 ++ thr 255 ∷ Sends (zeros 1) ∷ thr 0 ∷ Sends (zeros (F - 1) ++ ones (5 * F + S) ++ zeros 1) ∷ []
+lasts mode1 mode2 F S = prepared mode1 mode2 ++ thr 255 ∷ TxD (zeros 1) ∷ thr 0 ∷ TxD (zeros (F - 1) ++ ones (5 * F + S) ++ zeros 1) ∷ []
 
 -- a character of 0 in n bits at one tick a bit: the start, n zeros, the stop
 abbrev lengthIs : ℕ → ℕ → List Step
-lengthIs mode1 n = prepared mode1 0 ++ thr 0 ∷ Sends (zeros (1 + n) ++ ones 1) ∷ []
+lengthIs mode1 n = prepared mode1 0 ++ thr 0 ∷ TxD (zeros (1 + n) ++ ones 1) ∷ []
 
 -- a character waits, then break is on too, and 1 is sent; once it may start it does
 abbrev nothingStarts : List Step → ℕ → List Step → List Step
 nothingStarts before v opened =
-    before ++ command v ∷ thr 0 ∷ Sends (ones 3) ∷ command (v + 8) ∷ Sends (ones 2) ∷ command v ∷ opened ++ Sends (zeros 1) ∷ []
+    before ++ command v ∷ thr 0 ∷ TxD (ones 3) ∷ command (v + 8) ∷ TxD (ones 2) ∷ command v ∷ opened ++ TxD (zeros 1) ∷ []
 
 abbrev sendingScripts : List (List Step)
 sendingScripts =
@@ -137,8 +137,8 @@ sendingScripts =
     -- the four length codes
     ∷ lengthIs 65 5 ∷ lengthIs 69 6 ∷ lengthIs 73 7 ∷ lengthIs 77 8
     -- 5 bits with parity: 1 has one 1, so that odd parity sends 0 and even parity 1
-    ∷ (prepared 81 0 ++ thr 1 ∷ Sends (0 ∷ 1 ∷ 0 ∷ 0 ∷ 0 ∷ 0 ∷ 0 ∷ 1 ∷ []) ∷ [])
-    ∷ (prepared 113 0 ++ thr 1 ∷ Sends (0 ∷ 1 ∷ 0 ∷ 0 ∷ 0 ∷ 0 ∷ 1 ∷ 1 ∷ []) ∷ [])
+    ∷ (prepared 81 0 ++ thr 1 ∷ TxD (0 ∷ 1 ∷ 0 ∷ 0 ∷ 0 ∷ 0 ∷ 0 ∷ 1 ∷ []) ∷ [])
+    ∷ (prepared 113 0 ++ thr 1 ∷ TxD (0 ∷ 1 ∷ 0 ∷ 0 ∷ 0 ∷ 0 ∷ 1 ∷ 1 ∷ []) ∷ [])
     -- nothing starts while CTS is high, as a reset takes it, or mode unset, or transmit off
     ∷ nothingStarts (Do (Write 2 77) ∷ []) enabled (lowersAll ∷ [])
     ∷ nothingStarts (prepared 77 0 ++ Do (SetPins 0 0 1) ∷ []) enabled (lowersAll ∷ [])
@@ -150,19 +150,19 @@ sendingScripts =
 
 -- 5 bits at one tick a bit: L is 7. The change-mark of the pins is read away first
 abbrev oneFrame : List Step
-oneFrame = prepared 65 0 ++ Status (pinsLow192 + mark4 + ready1) ∷ thr 255 ∷ Sends (zeros 1 ++ ones 2) ∷ []
+oneFrame = prepared 65 0 ++ Status (pinsLow192 + eitherMark4 + ready1) ∷ thr 255 ∷ TxD (zeros 1 ++ ones 2) ∷ []
 
 abbrev emptyMarkScripts : List (List Step)
 emptyMarkScripts =
     -- off after 6 ticks, on after 7; a status read leaves it, a write of THR clears it
-    (oneFrame ++ Sends (ones 3) ∷ Status (pinsLow192 + ready1) ∷ Sends (ones 1) ∷ Status (pinsLow192 + mark4 + ready1) ∷ Status (pinsLow192 + mark4 + ready1)
+    (oneFrame ++ TxD (ones 3) ∷ Status (pinsLow192 + ready1) ∷ TxD (ones 1) ∷ Status (pinsLow192 + eitherMark4 + ready1) ∷ Status (pinsLow192 + eitherMark4 + ready1)
     ∷ thr 255 ∷ Status pinsLow192 ∷ [])
     -- a command that leaves transmit on leaves it, one that leaves transmit off clears it
-    ∷ (oneFrame ++ Sends (ones 4) ∷ command (enabled + 32) ∷ Status (pinsLow192 + mark4 + ready1) ∷ command 4 ∷ Status pinsLow192
+    ∷ (oneFrame ++ TxD (ones 4) ∷ command (enabled + 32) ∷ Status (pinsLow192 + eitherMark4 + ready1) ∷ command 4 ∷ Status pinsLow192
     ∷ command enabled ∷ Status (pinsLow192 + ready1) ∷ [])
     -- not set where THR was filled meanwhile, nor where transmit is off at the last tick
-    ∷ (oneFrame ++ thr 255 ∷ Sends (ones 4) ∷ Status pinsLow192 ∷ [])
-    ∷ (oneFrame ++ command 4 ∷ Sends (ones 4) ∷ command enabled ∷ Status (pinsLow192 + ready1) ∷ [])
+    ∷ (oneFrame ++ thr 255 ∷ TxD (ones 4) ∷ Status pinsLow192 ∷ [])
+    ∷ (oneFrame ++ command 4 ∷ TxD (ones 4) ∷ command enabled ∷ Status (pinsLow192 + ready1) ∷ [])
     ∷ []
 
 -- == registers read back ==
@@ -173,37 +173,38 @@ readBackScripts =
     (Do (Write 2 77) ∷ Do (Write 2 255) ∷ command 55 ∷ Reads 2 77 ∷ Reads 2 255 ∷ Reads 2 77 ∷ Reads 3 39 ∷ [])
     -- a mode read moves the pointer, so that mode 2 is written first; a command read puts it back
     ∷ (Reads 2 0 ∷ Do (Write 2 255) ∷ Do (Write 2 78) ∷ Reads 3 0 ∷ Reads 2 78 ∷ Reads 2 255 ∷ Reads 2 78 ∷ Reads 3 0 ∷ Reads 2 78 ∷ [])
-    -- a refused mode 1 leaves register and pointer; a reset clears the registers and puts the pointer back
-    ∷ (Refused (Write 2 1) 3 ∷ Refused (Write 2 76) 4 ∷ Do (Write 2 77) ∷ Do (Write 2 0) ∷ Refused (Write 2 0) 4 ∷ Reads 2 77 ∷ Do (Write 2 3)
+    -- what is refused leaves registers and pointer; a reset clears the registers and puts the pointer back
+    ∷ (Refused (Read 4) 1 ∷ Refused (SetPins 0 2 0) 2 ∷ Refused (Write 2 1) 3 ∷ Refused (Write 2 76) 4 ∷ Do (Write 2 77) ∷ Do (Write 2 0) ∷ Refused (Write 2 0) 4 ∷ Reads 2 77 ∷ Do (Write 2 3)
     ∷ command 1 ∷ Refused (Write 3 64) 5 ∷ Reads 3 1 ∷ Do Reset ∷ Reads 2 0 ∷ Reads 2 0 ∷ Reads 3 0 ∷ [])
     ∷ []
 
 -- == hearing: 5 bits, even parity, one tick a bit ==
 
 abbrev hearing : List Step
-hearing = prepared 113 0 ++ Status (pinsLow192 + mark4 + ready1) ∷ []
+hearing = prepared 113 0 ++ Status (pinsLow192 + eitherMark4 + ready1) ∷ []
 
 -- a 1 to mark, then start, a character of 1, parity, stop
 abbrev good : Step
-good = Hears (1 ∷ 0 ∷ 1 ∷ 0 ∷ 0 ∷ 0 ∷ 0 ∷ 1 ∷ 1 ∷ [])
+good = RxD (1 ∷ 0 ∷ 1 ∷ 0 ∷ 0 ∷ 0 ∷ 0 ∷ 1 ∷ 1 ∷ [])
 
 abbrev wrongParity : Step
-wrongParity = Hears (1 ∷ 0 ∷ 1 ∷ 0 ∷ 0 ∷ 0 ∷ 0 ∷ 0 ∷ 1 ∷ [])
+wrongParity = RxD (1 ∷ 0 ∷ 1 ∷ 0 ∷ 0 ∷ 0 ∷ 0 ∷ 0 ∷ 1 ∷ [])
 
 abbrev stopOf0 : Step
-stopOf0 = Hears (1 ∷ 0 ∷ 1 ∷ 0 ∷ 0 ∷ 0 ∷ 0 ∷ 1 ∷ 0 ∷ [])
+stopOf0 = RxD (1 ∷ 0 ∷ 1 ∷ 0 ∷ 0 ∷ 0 ∷ 0 ∷ 1 ∷ 0 ∷ [])
 
 abbrev hearingScripts : List (List Step)
 hearingScripts =
+    -- a good character: unread until RHR is read, and given again after it
     (hearing ++ good ∷ Status (pinsLow192 + unread2 + ready1) ∷ Reads 0 1 ∷ Status (pinsLow192 + ready1) ∷ Reads 0 1 ∷ [])
     -- nothing is heard while receive is off, DCD high, or mode 1 unset, though mode 2 makes the factor 16
     ∷ (hearing ++ command 1 ∷ good ∷ Status (pinsLow192 + ready1) ∷ Reads 0 0 ∷ [])
-    ∷ (hearing ++ Do (SetPins 0 1 0) ∷ good ∷ Status (128 + mark4 + ready1) ∷ Reads 0 0 ∷ [])
-    ∷ (Reads 2 0 ∷ Do (Write 2 16) ∷ command enabled ∷ lowersAll ∷ Hears (1 ∷ zeros 16 ++ ones 96) ∷ Status (pinsLow192 + mark4 + ready1) ∷ [])
-    -- one tick of that drops the character under way, and its 1 is no mark: the 0 after it is no start
-    ∷ (hearing ++ Hears (1 ∷ 0 ∷ 1 ∷ 0 ∷ []) ∷ Do (SetPins 0 1 0) ∷ Hears (1 ∷ []) ∷ lowersAll ∷ Hears (zeros 3 ++ ones 5) ∷ Status (pinsLow192 + mark4 + ready1) ∷ [])
+    ∷ (hearing ++ Do (SetPins 0 1 0) ∷ good ∷ Status (128 + eitherMark4 + ready1) ∷ Reads 0 0 ∷ [])
+    ∷ (Reads 2 0 ∷ Do (Write 2 16) ∷ command enabled ∷ lowersAll ∷ RxD (1 ∷ zeros 16 ++ ones 96) ∷ Status (pinsLow192 + eitherMark4 + ready1) ∷ [])
+    -- one tick with DCD high drops the character under way, and its 1 is no mark: the 0 after it is no start
+    ∷ (hearing ++ RxD (1 ∷ 0 ∷ 1 ∷ 0 ∷ []) ∷ Do (SetPins 0 1 0) ∷ RxD (1 ∷ []) ∷ lowersAll ∷ RxD (zeros 3 ++ ones 5) ∷ Status (pinsLow192 + eitherMark4 + ready1) ∷ [])
     -- a command that leaves receive off drops it too, empties RHR, and what that held is given again
-    ∷ (hearing ++ good ∷ Hears (0 ∷ 1 ∷ 0 ∷ []) ∷ command 1 ∷ command enabled ∷ Hears (zeros 3 ++ ones 5) ∷ Status (pinsLow192 + ready1) ∷ Reads 0 1 ∷ [])
+    ∷ (hearing ++ good ∷ RxD (0 ∷ 1 ∷ 0 ∷ []) ∷ command 1 ∷ command enabled ∷ RxD (zeros 3 ++ ones 5) ∷ Status (pinsLow192 + ready1) ∷ Reads 0 1 ∷ [])
     -- bits 3, 4 and 5
     ∷ (hearing ++ wrongParity ∷ Status (pinsLow192 + parity8 + unread2 + ready1) ∷ [])
     ∷ (hearing ++ good ∷ good ∷ Status (pinsLow192 + overrun16 + unread2 + ready1) ∷ [])

@@ -1,5 +1,5 @@
--- A device by its parts, the device just reset, and the kinds of answer. Nothing here is a rule. No other file builds a device, its
--- registers, its pins or its flags field by field, so that a new field is one change.
+-- A device by its parts, the kinds of answer, and the device just reset, which is the one rule here. No other file builds a device, its registers,
+-- its pins or its flags field by field, so that a new field is one change.
 -- Assumes nothing.
 use Prim.Native.Nat.{ℕ}
 use Rattle.link_rules.specs.declared.SenderHalf.{SenderHalf}
@@ -59,22 +59,28 @@ withDle r v = record { mode1 = r .mode1; mode2 = r .mode2; accepted = r .accepte
 abbrev pub accepting : Registers → Registers
 accepting r = record { mode1 = r .mode1; mode2 = r .mode2; accepted = 1; command = r .command; syn1 = r .syn1; syn2 = r .syn2; dle = r .dle; modes = r .modes; syns = r .syns }
 
+abbrev pub withModePointer : Registers → ℕ → Registers
+withModePointer r p = record { mode1 = r .mode1; mode2 = r .mode2; accepted = r .accepted; command = r .command; syn1 = r .syn1; syn2 = r .syn2; dle = r .dle; modes = p; syns = r .syns }
+
+abbrev pub withSynPointer : Registers → ℕ → Registers
+withSynPointer r p = record { mode1 = r .mode1; mode2 = r .mode2; accepted = r .accepted; command = r .command; syn1 = r .syn1; syn2 = r .syn2; dle = r .dle; modes = r .modes; syns = p }
+
 -- the mode pointer is put to mode 1, or to mode 2 ..
 abbrev pub toMode1 : Registers → Registers
-toMode1 r = record { mode1 = r .mode1; mode2 = r .mode2; accepted = r .accepted; command = r .command; syn1 = r .syn1; syn2 = r .syn2; dle = r .dle; modes = 0; syns = r .syns }
+toMode1 r = withModePointer r 0
 
 abbrev pub toMode2 : Registers → Registers
-toMode2 r = record { mode1 = r .mode1; mode2 = r .mode2; accepted = r .accepted; command = r .command; syn1 = r .syn1; syn2 = r .syn2; dle = r .dle; modes = 1; syns = r .syns }
+toMode2 r = withModePointer r 1
 
 -- .. and the SYN pointer to SYN1, SYN2 or DLE
 abbrev pub toSyn1 : Registers → Registers
-toSyn1 r = record { mode1 = r .mode1; mode2 = r .mode2; accepted = r .accepted; command = r .command; syn1 = r .syn1; syn2 = r .syn2; dle = r .dle; modes = r .modes; syns = 0 }
+toSyn1 r = withSynPointer r 0
 
 abbrev pub toSyn2 : Registers → Registers
-toSyn2 r = record { mode1 = r .mode1; mode2 = r .mode2; accepted = r .accepted; command = r .command; syn1 = r .syn1; syn2 = r .syn2; dle = r .dle; modes = r .modes; syns = 1 }
+toSyn2 r = withSynPointer r 1
 
 abbrev pub toDle : Registers → Registers
-toDle r = record { mode1 = r .mode1; mode2 = r .mode2; accepted = r .accepted; command = r .command; syn1 = r .syn1; syn2 = r .syn2; dle = r .dle; modes = r .modes; syns = 2 }
+toDle r = withSynPointer r 2
 
 -- == pins ==
 

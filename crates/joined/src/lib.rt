@@ -1,5 +1,6 @@
 // Two devices joined by a line: document 01, "Receiving, by receive ticks", on joined ticks.
-// Every call takes any number in any field, and none is refused. A device out of range is taken as one just reset.
+// Every call takes any number in any field, and none is refused. A device out of range is taken as one just reset,
+// but by a run of 0, which changes nothing.
 ghost use mathlib.Core.Path.{_≡_};
 ghost use Prim.Native.Nat.{_≤_};
 ghost use Rattle.joined_rules.specs.Joining;

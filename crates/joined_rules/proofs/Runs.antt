@@ -68,6 +68,11 @@ pub tick-mirrors : (p : Pair) → tick (mirror p) ≡ mirrored (tick p)
 unfolding tick
 tick-mirrors p = refl
 
+-- each level told is the one that the device's own transmit tick sends
+pub tick-tells : (p : Pair) → (tick p .a ≡ transmit (p .a) .level) × (tick p .b ≡ transmit (p .b) .level)
+unfolding tick
+tick-tells p = (refl, refl)
+
 -- == many ==
 
 -- a run of m + n is a run of n after a run of m

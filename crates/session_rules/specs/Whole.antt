@@ -14,11 +14,12 @@ use Rattle.rows.specs.Text.{countsText}
 
 -- == lines ==
 
--- the parts but for an empty last one
+-- a part, unless it is empty
 abbrev pub unlessEmpty : List ℕ → List (List ℕ)
 unlessEmpty [] = []
 unlessEmpty (b ∷ bs) = (b ∷ bs) ∷ []
 
+-- the parts but for an empty last one
 abbrev pub filled : List (List ℕ) → List (List ℕ)
 filled [] = []
 filled (p ∷ []) = unlessEmpty p

@@ -5,7 +5,7 @@ use Rattle.calm.proofs.clear.Statement.{statement}
 use Rattle.calm.proofs.clear.Tie as tie
 
 returns : tie.Need-returns
-returns c = rw (c .at-rest .ensures, c .before .is-no-format .ensures)
+returns c = rw (c .is-at-rest .ensures, c .before .is-no-format .ensures)
 
 pub clear-spec : {M : Type 1} → statement M
 clear-spec = tie.close (tie.spec (λ c κs. search needs) (λ c κs. search needs) returns)
