@@ -193,6 +193,9 @@ wrongParity = RxD (1 ∷ 0 ∷ 1 ∷ 0 ∷ 0 ∷ 0 ∷ 0 ∷ 0 ∷ 1 ∷ [])
 abbrev stopOf0 : Step
 stopOf0 = RxD (1 ∷ 0 ∷ 1 ∷ 0 ∷ 0 ∷ 0 ∷ 0 ∷ 1 ∷ 0 ∷ [])
 
+abbrev wrongBoth : Step
+wrongBoth = RxD (1 ∷ 0 ∷ 1 ∷ 0 ∷ 0 ∷ 0 ∷ 0 ∷ 0 ∷ 0 ∷ [])
+
 abbrev hearingScripts : List (List Step)
 hearingScripts =
     -- a good character: unread until RHR is read, and given again after it
@@ -209,6 +212,8 @@ hearingScripts =
     ∷ (hearing ++ wrongParity ∷ Status (pinsLow192 + parity8 + unread2 + ready1) ∷ [])
     ∷ (hearing ++ good ∷ good ∷ Status (pinsLow192 + overrun16 + unread2 + ready1) ∷ [])
     ∷ (hearing ++ stopOf0 ∷ Status (pinsLow192 + framing32 + unread2 + ready1) ∷ [])
+    -- a wrong parity and a stop of 0 of one character are told independently
+    ∷ (hearing ++ wrongBoth ∷ Status (pinsLow192 + framing32 + parity8 + unread2 + ready1) ∷ [])
     -- commands with bit 4 at 0 leave all three, one with bit 4 at 1 clears all three
     ∷ (hearing ++ wrongParity ∷ stopOf0 ∷ Status (pinsLow192 + framing32 + overrun16 + parity8 + unread2 + ready1)
     ∷ command enabled ∷ Status (pinsLow192 + framing32 + overrun16 + parity8 + unread2 + ready1)
