@@ -14,6 +14,7 @@ pub mod Arrives
 pub mod ByHistory
 pub mod Bench
 pub mod RuleRows
+pub mod ModeCodes
 pub mod PointersMove
 pub mod ReadByHistory
 pub mod Rules

@@ -43,6 +43,13 @@ send-internal d e = ap (λ (b : Bool). formatOf (d .registers .mode1) b .factor)
 pub receive-internal : (d : Device) → has 16 (d .registers .mode2) ≡ true → receiveFormat (d .registers) .factor ≡ 16
 receive-internal d e = ap (λ (b : Bool). formatOf (d .registers .mode1) b .factor) e ∙ internal-is-16 (d .registers .mode1)
 
+-- and nothing but that direction's own clock bit changes what mode 1 says
+pub send-external : (d : Device) → has 32 (d .registers .mode2) ≡ false → sendFormat (d .registers) ≡ formatOf (d .registers .mode1) false
+send-external d e = ap (λ (b : Bool). formatOf (d .registers .mode1) b) e
+
+pub receive-external : (d : Device) → has 16 (d .registers .mode2) ≡ false → receiveFormat (d .registers) ≡ formatOf (d .registers .mode1) false
+receive-external d e = ap (λ (b : Bool). formatOf (d .registers .mode1) b) e
+
 -- == nothing starts ==
 
 last-off : (a : Bool) → (a && false) ≡ false

@@ -125,6 +125,10 @@ abbrev nothingStarts : List Step → ℕ → List Step → List Step
 nothingStarts before v opened =
     before ++ command v ∷ thr 0 ∷ TxD (ones 3) ∷ command (v + 8) ∷ TxD (ones 2) ∷ command v ∷ opened ++ TxD (zeros 1) ∷ []
 
+-- the highest of n bits alone, at one tick a bit with even parity: the start, n - 1 zeros, that bit, the parity, the stop
+abbrev highestBit : ℕ → ℕ → ℕ → List Step
+highestBit mode1 n c = prepared mode1 0 ++ thr c ∷ TxD (zeros n ++ ones 3) ∷ []
+
 abbrev sendingScripts : List (List Step)
 sendingScripts =
     afterBreak 77 1 ∷ afterBreak 78 16 ∷ afterBreak 79 64 ∷ guardFalls
@@ -139,6 +143,10 @@ sendingScripts =
     -- 5 bits with parity: 1 has one 1, so that odd parity sends 0 and even parity 1
     ∷ (prepared 81 0 ++ thr 1 ∷ TxD (0 ∷ 1 ∷ 0 ∷ 0 ∷ 0 ∷ 0 ∷ 0 ∷ 1 ∷ []) ∷ [])
     ∷ (prepared 113 0 ++ thr 1 ∷ TxD (0 ∷ 1 ∷ 0 ∷ 0 ∷ 0 ∷ 0 ∷ 1 ∷ 1 ∷ []) ∷ [])
+    -- the parity counts each of the n bits
+    ∷ highestBit 117 6 32 ∷ highestBit 121 7 64 ∷ highestBit 125 8 128
+    -- DSR, DCD and receive enable do not matter to a frame, nor to a break, which needs no character
+    ∷ (Do (Write 2 65) ∷ command 1 ∷ Do (SetPins 1 1 0) ∷ thr 255 ∷ TxD (zeros 1 ++ ones 6) ∷ command (1 + 8) ∷ TxD (zeros 2) ∷ [])
     -- nothing starts while CTS is high, as a reset takes it, or mode unset, or transmit off
     ∷ nothingStarts (Do (Write 2 77) ∷ []) enabled (lowersAll ∷ [])
     ∷ nothingStarts (prepared 77 0 ++ Do (SetPins 0 0 1) ∷ []) enabled (lowersAll ∷ [])
@@ -208,6 +216,8 @@ hearingScripts =
     ∷ (hearing ++ RxD (1 ∷ 0 ∷ 1 ∷ 0 ∷ []) ∷ Do (SetPins 0 1 0) ∷ RxD (1 ∷ []) ∷ lowersAll ∷ RxD (zeros 3 ++ ones 5) ∷ Status (pinsLow192 + eitherMark4 + ready1) ∷ [])
     -- a command that leaves receive off drops it too, empties RHR, and what that held is given again
     ∷ (hearing ++ good ∷ RxD (0 ∷ 1 ∷ 0 ∷ []) ∷ command 1 ∷ command enabled ∷ RxD (zeros 3 ++ ones 5) ∷ Status (pinsLow192 + ready1) ∷ Reads 0 1 ∷ [])
+    -- DSR, CTS, transmit enable and break do not matter to what is heard, nor does the transmit clock, bit 5 of mode 2
+    ∷ (Do (Write 2 113) ∷ Do (Write 2 32) ∷ command (4 + 8) ∷ Do (SetPins 1 0 1) ∷ good ∷ Status (64 + eitherMark4 + unread2) ∷ Reads 0 1 ∷ [])
     -- bits 3, 4 and 5
     ∷ (hearing ++ wrongParity ∷ Status (pinsLow192 + parity8 + unread2 + ready1) ∷ [])
     ∷ (hearing ++ good ∷ good ∷ Status (pinsLow192 + overrun16 + unread2 + ready1) ∷ [])

@@ -29,18 +29,18 @@ pulse k = true ∷ replicate k false ++ replicate 160 true
 -- == which formats there are ==
 
 -- what g makes of each number, one after the other
-abbrev each : List ℕ → (ℕ → List Format) → List Format
-each [] g = []
-each (x ∷ xs) g = g x ++ each xs g
+abbrev pub forEach : List ℕ → (ℕ → List Format) → List Format
+forEach [] g = []
+forEach (x ∷ xs) g = g x ++ forEach xs g
 
 -- mode register 1's, with an internal clock's factor among them
 abbrev formats : List Format
 formats =
-    each (1 ∷ 16 ∷ 64 ∷ []) λ (F : ℕ).
-    each (5 ∷ 6 ∷ 7 ∷ 8 ∷ []) λ (n : ℕ).
-    each (0 ∷ 1 ∷ []) λ (p : ℕ).
-    each (0 ∷ 1 ∷ []) λ (e : ℕ).
-    each (F ∷ 3 * F / 2 ∷ 2 * F ∷ []) λ (s : ℕ).
+    forEach (1 ∷ 16 ∷ 64 ∷ []) λ (F : ℕ).
+    forEach (5 ∷ 6 ∷ 7 ∷ 8 ∷ []) λ (n : ℕ).
+    forEach (0 ∷ 1 ∷ []) λ (p : ℕ).
+    forEach (0 ∷ 1 ∷ []) λ (e : ℕ).
+    forEach (F ∷ 3 * F / 2 ∷ 2 * F ∷ []) λ (s : ℕ).
     format F n p e s ∷ []
 
 formats-in-range : map inRange formats ≡ replicate 144 true
@@ -63,6 +63,11 @@ sends-255-short = refl
 sends-33-even : frame (format 1 5 1 1 1) 33 ≡ levels (0 ∷ 1 ∷ 0 ∷ 0 ∷ 0 ∷ 0 ∷ 1 ∷ 1 ∷ [])
 unfolding oddOnes parityBit
 sends-33-even = refl
+
+-- each of eight bits counts
+sends-128-even : frame (format 1 8 1 1 1) 128 ≡ levels (0 ∷ 0 ∷ 0 ∷ 0 ∷ 0 ∷ 0 ∷ 0 ∷ 0 ∷ 1 ∷ 1 ∷ 1 ∷ [])
+unfolding oddOnes parityBit
+sends-128-even = refl
 
 -- == L and D ==
 
@@ -104,3 +109,8 @@ reads-a-break = refl
 reads-255-wrong : reading (format 16 8 1 0 16) (true ∷ frame (format 16 8 1 1 16) 255) ≡ arrived 170 255 true false ∷ []
 unfolding reading oddOnes parityBit
 reads-255-wrong = refl
+
+-- a wrong parity and a stop of 0 of one character are told independently
+reads-both-wrong : reading (format 1 5 1 1 1) (levels (1 ∷ 0 ∷ 1 ∷ 0 ∷ 0 ∷ 0 ∷ 0 ∷ 0 ∷ 0 ∷ [])) ≡ arrived 9 1 true true ∷ []
+unfolding reading oddOnes parityBit
+reads-both-wrong = refl

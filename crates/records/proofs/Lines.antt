@@ -31,6 +31,8 @@ table =
     ∷ row (bytes "P\tA\t0\t0\t256") Shapeless
     ∷ row (bytes "Z\tA") (Reset (code "A"))
     ∷ row (bytes "Z\tC") Shapeless
+    ∷ row (bytes "Z\ta") Shapeless
+    ∷ row (bytes "Z\tb") Shapeless
     ∷ row (bytes "L\t65535") (Ticks 65535)
     ∷ row (bytes "L\t65536") Shapeless
     ∷ row (bytes "L\t00007") (Ticks 7)
