@@ -7,10 +7,8 @@ use mathlib.Core.Path.{_≡_, refl, sym, subst}
 use mathlib.Core.Bool.{true, false}
 use lib.Dec.{eqb}
 use borrow.Author.Tests.{eq-eqb, ne-eqb}
-use Rattle.line_rules.specs.Receiving.{waiting}
 use Rattle.line_rules.proofs.Choice.{either}
-use Rattle.link_rules.specs.declared.ReceiverHalf.{ReceiverHalf}
-use Rattle.link_rules.specs.Parts.{noFormat}
+use Rattle.link_rules.proofs.Halves.{Dropped}
 use Rattle.ins2651_rules.specs.declared.Flags.{Flags}
 use Rattle.ins2651_rules.specs.declared.Registers.{Registers}
 use Rattle.ins2651_rules.specs.declared.Device.{Device}
@@ -164,21 +162,15 @@ pub record NoErrors (f : Flags) : Type 0 where
   pub overrun : f .overrun ≡ 0
   pub parity : f .parity ≡ 0
 
--- RHR empty with the same character, nothing under way, and a wait for a 1
-pub record SwitchedOff (r q : ReceiverHalf) : Type 0 where
-  pub state : q .state ≡ waiting
-  pub format : q .format ≡ noFormat
-  pub holding : q .holding ≡ r .holding
-  pub unread : q .unread ≡ 0
-
--- all bits of the value but bit 4 are stored. Bit 4 is reset error, bit 0 transmit enable, bit 2 receive enable
+-- all bits of the value but bit 4 are stored. Bit 4 is reset error, bit 0 transmit enable, bit 2 receive enable: off, it empties RHR, which still
+-- gives its character, and leaves nothing under way and a wait for a 1
 pub record CommandWritten (v : ℕ) (d e : Device) : Type 0 where
   pub command : e .registers .command ≡ withoutBit4 v
   pub errors-cleared : has 16 v ≡ true → NoErrors (e .flags)
   pub errors-kept : has 16 v ≡ false → SameErrors (d .flags) (e .flags)
   pub empty-cleared : has 1 v ≡ false → e .flags .empty ≡ 0
   pub empty-kept : has 1 v ≡ true → e .flags .empty ≡ d .flags .empty
-  pub receiver-off : has 4 v ≡ false → SwitchedOff (d .receiver) (e .receiver)
+  pub receiver-off : has 4 v ≡ false → Dropped (d .receiver) 0 (e .receiver)
   pub receiver-kept : has 4 v ≡ true → e .receiver ≡ d .receiver
   pub modes : SameModes (d .registers) (e .registers)
   pub syns : SameSyns (d .registers) (e .registers)

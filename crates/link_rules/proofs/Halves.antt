@@ -143,14 +143,15 @@ pub receive-off : (r : ReceiverHalf) (f : Format) (x : Bool) → receive r false
 unfolding receive
 receive-off r f x = refl
 
-pub record Dropped (r q : ReceiverHalf) : Type 0 where
+-- what is left of r where its character is dropped, with the unread mark u
+pub record Dropped (r : ReceiverHalf) (u : ℕ) (q : ReceiverHalf) : Type 0 where
   pub state : q .state ≡ waiting
   pub format : q .format ≡ noFormat
   pub holding : q .holding ≡ r .holding
-  pub unread : q .unread ≡ r .unread
+  pub unread : q .unread ≡ u
 
 -- .. and leaves the holding register and its mark
-pub off-leaves : (r : ReceiverHalf) (f : Format) (x : Bool) → Dropped r (receive r false f x .half)
+pub off-leaves : (r : ReceiverHalf) (f : Format) (x : Bool) → Dropped r (r .unread) (receive r false f x .half)
 unfolding receive
 off-leaves r f x = record { state = refl; format = refl; holding = refl; unread = refl }
 
