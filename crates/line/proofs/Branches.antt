@@ -1,28 +1,16 @@
 -- The definitions by cases, as the code comes to them: it takes 1 from a number that is not 0.
 -- Assumes nothing.
-use Prim.Native.Nat.{ℕ, zero, suc, _+_, _-_, _/_}
+use Prim.Native.Nat.{ℕ, zero, suc, _+_, _-_}
 use native.Mathlib.Numerals.{add-one}
 use native.Mathlib.Omega.{arith}
-use mathlib.Core.Path.{_≡_, refl, ap, sym, _∙_}
-use mathlib.Core.Bool.{Bool, true}
+use mathlib.Core.Path.{_≡_, refl}
+use mathlib.Core.Bool.{Bool}
 use Rattle.line_rules.specs.declared.Format.{Format}
-use Rattle.line_rules.specs.Sending.{part, dataLevel, parityLevel, levelOf, level}
+use Rattle.line_rules.specs.Sending.{part}
 use Rattle.line_rules.specs.Receiving.{assembling, quiet, lookNext, withBit, parityLook, stopLook, lookAt, under}
 
 less-one : (m : ℕ) → suc m - 1 ≡ m
 less-one m = omega arith
-
-levelOf-part : (f : Format) (c m : ℕ) → (m ≡ 0 → ⊥) → levelOf f c m ≡ part f (m - 1) (dataLevel c (m - 1)) (parityLevel f c) true
-levelOf-part f c zero h = absurd (h refl)
-levelOf-part f c (suc m) h = rw (less-one m)
-
--- the level in bit m
-pub level-start : (f : Format) (c place m : ℕ) → m ≡ place / f .factor → m ≡ 0 → level f c place ≡ levelOf f c 0
-level-start f c place m e h = ap (levelOf f c) (sym e ∙ h)
-
-pub level-part : (f : Format) (c place m : ℕ) → m ≡ place / f .factor → (m ≡ 0 → ⊥)
-    → level f c place ≡ part f (m - 1) (dataLevel c (m - 1)) (parityLevel f c) true
-level-part f c place m e h = sym (ap (levelOf f c) e) ∙ levelOf-part f c m h
 
 pub look-part : (f : Format) (m v w : ℕ) (x : Bool) → (m ≡ 0 → ⊥)
     → lookAt f m v w x ≡ part f (m - 1) (lookNext f (m + 1) (withBit v (m - 1) x) w) (parityLook f (m + 1) v x) (stopLook v w x)

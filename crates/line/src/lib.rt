@@ -1,7 +1,8 @@
 // What a frame is on the line, and what arrives from it: document 01, "Sending" and "Receiving".
 // Every call takes any number in any field: `line_rules` says what each answers, inside the range and outside.
 ghost use mathlib.Core.Path.{_≡_};
-ghost use Prim.Native.Nat.{_-_, _^_, _/_, _%_, _≤_};
+ghost use Prim.Native.Nat.{suc, _*_, _-_, _^_, _/_, _%_, _≤_, _<_};
+ghost use lib.Dec.{eqb};
 ghost use Rattle.line_rules.specs.Sending;
 ghost use Rattle.line_rules.specs.Sending.{bit, parityBits, beforeStop, frameLength, stopSample, parityBit, bitAt, dataLevel, parityLevel};
 ghost use Rattle.line_rules.specs.Range.{isFactor, isStop, isLength, inRange};
@@ -74,6 +75,21 @@ fn parity_bits(f: Format) -> u16
     wide(number(0 < f.parity))
 }
 
+// F: the ticks before the data.
+fn before_data(f: Format) -> u32
+    ensures { λ r. ⌜ r ≡ f .factor ⌝ }
+{
+    long(wide(f.factor))
+}
+
+// F(1+n): the ticks before the parity.
+fn before_parity(f: Format) -> u32
+    ensures { λ r. ⌜ r ≡ f .factor * suc (f .length) ⌝ }
+{
+    let bits = wide(f.length) + 1;
+    long(wide(f.factor)) * long(bits)
+}
+
 // F(1+n+p): the ticks before the stop.
 fn before_stop(f: Format) -> u32
     ensures { λ r. ⌜ (r ≡ beforeStop f) × (r ≤ 65535) ⌝ }
@@ -142,31 +158,34 @@ fn parity_level(f: Format, c: u8) -> bool
     parity_bit(f, kept)
 }
 
-// The number of the bit that a place of a frame is in.
-fn bit_number(f: Format, place: u16) -> u16
-    ensures { λ r. ⌜ r ≡ place / f .factor ⌝ }
+// A factor of 0, out of range, ends no bit: every place is in the start, though none is before the data.
+fn start_never_ends(f: Format) -> bool
+    ensures { λ r. ⌜ r ≡ eqb (f .factor) 0 ⌝ }
 {
-    let ticks = wide(f.factor);
-    if ticks == 0 {
-        return 0;
-    }
-    place / ticks
+    f.factor == 0
 }
 
-// The level of a frame of a character at any place.
+// Which data bit a place behind the start is in, counted from 0: each lasts F ticks.
+fn data_bit(f: Format, place: u16) -> u16
+    requires { ⌜ (0 < f .factor) × (f .factor ≤ place) ⌝ }
+    ensures { λ r. ⌜ r ≡ (place - f .factor) / f .factor ⌝ }
+{
+    let ticks = wide(f.factor);
+    (place - ticks) / ticks
+}
+
+// The level of a frame of a character at any place: a start of 0, the data, the parity if there is one, a stop of 1.
 pub fn level(f: Format, c: u8, place: u16) -> bool
     ensures { λ r. ⌜ r ≡ Sending.level f c place ⌝ }
 {
-    let m = bit_number(f, place);
-    if m == 0 {
+    let at = long(place);
+    if start_never_ends(f) | (at < before_data(f)) {
         return false;
     }
-    let i = m - 1;
-    let n = wide(f.length);
-    if i < n {
-        return data_level(c, i);
+    if at < before_parity(f) {
+        return data_level(c, data_bit(f, place));
     }
-    if i < n + parity_bits(f) {
+    if at < before_stop(f) {
         return parity_level(f, c);
     }
     true

@@ -1,28 +1,42 @@
--- `line::level` meets its contract. Each way out is the level of the bit that the place is in.
+-- `line::level` meets its contract. Each way out is the part of the frame between two boundaries.
 -- Assumes nothing.
 use borrow.Author.Needs.{needs}
 use native.Mathlib.Omega.{arith}
 use mathlib.Core.Path.{sym, _∙_}
-use Rattle.line_rules.proofs.Parts.{part-data, part-parity, part-stop}
-use Rattle.line.proofs.Branches.{level-start, level-part}
+use Rattle.line_rules.proofs.Frames.{level-stop}
+use Rattle.line.proofs.Boundaries.{behind-start, level-start, level-data, level-parity}
 use Rattle.line.proofs.level.Statement.{statement}
 use Rattle.line.proofs.level.Tie as tie
 
 returns : tie.Need-returns
-returns c = sym (level-start _ _ _ _ (c .before .bit-number .ensures) (c .if1 .taken))
+returns c =
+    let t = c .before .before in
+    let a = t .before .before .args in
+    sym (level-start (a .f) (a .c) (a .place) (t .start-never-ends .ensures) (t .before .long .ensures) (c .before .before-data .ensures) (c .if1 .taken))
+
+data-bit-requires : tie.Need-data-bit-requires
+data-bit-requires c κs =
+    let t = c .before .before .before in
+    behind-start (t .before .start-never-ends .ensures) (t .before .before .long .ensures) (t .before-data .ensures) (c .before .before .if1 .left)
 
 returns-2 : tie.Need-returns-2
 returns-2 c =
-    c .data-level .ensures
-    ∙ sym (level-part _ _ _ _ (c .before .before .before .before .bit-number .ensures) (c .before .before .before .if1 .left) ∙ part-data _ _ _ _ _ (omega arith))
+    let t = c .before .before .before .before .before in
+    let a = t .before .before .before .args in
+    let b = behind-start (t .before .start-never-ends .ensures) (t .before .before .long .ensures) (t .before-data .ensures) (c .before .before .before .before .if1 .left) in
+    rw (c .data-level .ensures, c .before .data-bit .ensures) (sym (level-data (a .f) (a .c) (a .place) (b .1) (omega arith)))
 
 returns-3 : tie.Need-returns-3
 returns-3 c =
-    c .parity-level .ensures
-    ∙ sym (level-part _ _ _ _ (c .before .before .before .before .before .before .bit-number .ensures) (c .before .before .before .before .before .if1 .left) ∙ part-parity _ _ _ _ _ (omega arith) (omega arith))
+    let a = c .before .before .before .before .before .before .before .before .before .args in
+    c .parity-level .ensures ∙ sym (level-parity (a .f) (a .c) (a .place) (omega arith) (omega arith))
 
 returns-4 : tie.Need-returns-4
-returns-4 c = sym (level-part _ _ _ _ (c .before .before .before .before .before .bit-number .ensures) (c .before .before .before .before .if1 .left) ∙ part-stop _ _ _ _ _ (omega arith))
+returns-4 c =
+    let t = c .before .before .before .before .before in
+    let a = t .before .before .before .args in
+    let b = behind-start (t .before .start-never-ends .ensures) (t .before .before .long .ensures) (t .before-data .ensures) (c .before .before .before .before .if1 .left) in
+    sym (level-stop (a .f) (a .c) (a .place) (b .0) (omega arith))
 
 pub level-spec : {M : Type 1} → statement M
-level-spec = tie.close (tie.spec (λ c κs. search needs) returns (λ c. search needs) (λ c κs. search needs) (λ c κs. search needs) returns-2 (λ c κs. search needs) (λ c. search needs) (λ c κs. search needs) returns-3 returns-4)
+level-spec = tie.close (tie.spec (λ c κs. search needs) (λ c κs. search needs) (λ c κs. search needs) returns (λ c κs. search needs) data-bit-requires (λ c κs. search needs) returns-2 (λ c κs. search needs) (λ c κs. search needs) returns-3 returns-4)
