@@ -3,7 +3,7 @@
 use Prim.Native.Nat.{ℕ, zero, suc, _+_, _*_, _-_, _/_, _≤_, _<_}
 use native.Mathlib.Nat.{div-zero, div-eq-of-lt, div-eq-sub-div, div-lt-iff-lt-mul, le-div-iff-mul-le}
 use native.Mathlib.Omega.{arith}
-use mathlib.Core.Path.{_≡_, refl, ap, sym, _∙_}
+use mathlib.Core.Path.{_≡_, refl, ap, _∙_}
 use mathlib.Core.Bool.{Bool, true, false, _||_}
 use lib.Dec.{eqb, ltb}
 use borrow.Author.Tests.{eqb-true, eqb-false, ltb-true, ltb-false}
@@ -12,23 +12,20 @@ use Rattle.line_rules.specs.Sending.{parityBits, beforeStop, dataLevel, parityL
 use Rattle.line_rules.proofs.Choice.{neither}
 use Rattle.line_rules.proofs.Parts.{part-data, part-parity}
 
--- == the code's test of the start ==
+-- == the test of the start, with F at 0 too ==
 
-module _ {F place at b : ℕ} {endless : Bool} (none : endless ≡ eqb F 0) (here : at ≡ place) (start : b ≡ F) where
-  -- with F at 0 too a place is in bit 0
-  in-start : (endless || ltb at b) ≡ true → place / F ≡ 0
-  in-start h = go (eqb F 0) refl (rw (← none, ← here, ← start) h)
-    where
-      go : (t : Bool) → eqb F 0 ≡ t → (t || ltb place F) ≡ true → place / F ≡ 0
-      go true e h = ap (λ (k : ℕ). place / k) (eqb-true F 0 e) ∙ div-zero place
-      go false e h = div-eq-of-lt (ltb-true place F h)
+in-start : (F place : ℕ) → (eqb F 0 || ltb place F) ≡ true → place / F ≡ 0
+in-start F place = go (eqb F 0) refl
+  where
+    go : (endless : Bool) → eqb F 0 ≡ endless → (endless || ltb place F) ≡ true → place / F ≡ 0
+    go true e h = ap (λ (k : ℕ). place / k) (eqb-true F 0 e) ∙ div-zero place
+    go false e h = div-eq-of-lt (ltb-true place F h)
 
-  pub behind-start : (endless || ltb at b) ≡ false → (0 < F) × (F ≤ place)
-  behind-start h =
-      let n = neither endless (ltb at b) h in
-      let some : F ≡ 0 → ⊥ = eqb-false F 0 (sym none ∙ n .0) in
-      let from : b ≤ at = ltb-false at b (n .1) in
-      (omega arith, omega arith)
+pub behind-start : (F place : ℕ) → (eqb F 0 || ltb place F) ≡ false → (0 < F) × (F ≤ place)
+behind-start F place h =
+    let n = neither (eqb F 0) (ltb place F) h in
+    let ends : F ≡ 0 → ⊥ = eqb-false F 0 (n .0) in
+    (omega arith, ltb-false place F (n .1))
 
 -- == which bit after the start a place is in ==
 
@@ -51,8 +48,8 @@ module _ (F place : ℕ) (pos : 0 < F) (behind : F ≤ place) where
 -- == start, data and parity; the stop is `level-stop` of `line_rules` ==
 
 module _ (f : Format) (c place : ℕ) where
-  pub level-start : {at b : ℕ} {endless : Bool} → endless ≡ eqb (f .factor) 0 → at ≡ place → b ≡ f .factor → (endless || ltb at b) ≡ true → level f c place ≡ false
-  level-start none here start h = ap (levelOf f c) (in-start none here start h)
+  pub level-start : (eqb (f .factor) 0 || ltb place (f .factor)) ≡ true → level f c place ≡ false
+  level-start h = ap (levelOf f c) (in-start (f .factor) place h)
 
   pub level-data : f .factor ≤ place → place < f .factor * suc (f .length) → level f c place ≡ dataLevel c ((place - f .factor) / f .factor)
   level-data l h =

@@ -158,7 +158,7 @@ fn parity_level(f: Format, c: u8) -> bool
     parity_bit(f, kept)
 }
 
-// A factor of 0, out of range, ends no bit: every place is in the start, though none is before the data.
+// A factor of 0, out of range, ends no bit: every place is in the start, where the boundaries alone would answer the stop.
 fn start_never_ends(f: Format) -> bool
     ensures { λ r. ⌜ r ≡ eqb (f .factor) 0 ⌝ }
 {
@@ -174,7 +174,7 @@ fn data_bit(f: Format, place: u16) -> u16
     (place - ticks) / ticks
 }
 
-// The level of a frame of a character at any place: a start of 0, the data, the parity if there is one, a stop of 1.
+// The level of a frame of a character at any place ("Sending, by transmit ticks"): start 0, data, parity, stop 1.
 pub fn level(f: Format, c: u8, place: u16) -> bool
     ensures { λ r. ⌜ r ≡ Sending.level f c place ⌝ }
 {

@@ -10,20 +10,20 @@ use Rattle.line.proofs.level.Tie as tie
 
 returns : tie.Need-returns
 returns c =
-    let t = c .before .before in
-    let a = t .before .before .args in
-    sym (level-start (a .f) (a .c) (a .place) (t .start-never-ends .ensures) (t .before .long .ensures) (c .before .before-data .ensures) (c .if1 .taken))
+    let t = c .before in
+    let a = t .before .before .before .args in
+    sym (level-start (a .f) (a .c) (a .place) (rw (← t .before .start-never-ends .ensures, ← t .before-data .ensures, ← t .before .before .long .ensures) (c .if1 .taken)))
 
 data-bit-requires : tie.Need-data-bit-requires
 data-bit-requires c κs =
     let t = c .before .before .before in
-    behind-start (t .before .start-never-ends .ensures) (t .before .before .long .ensures) (t .before-data .ensures) (c .before .before .if1 .left)
+    behind-start _ _ (rw (← t .before .start-never-ends .ensures, ← t .before-data .ensures, ← t .before .before .long .ensures) (c .before .before .if1 .left))
 
 returns-2 : tie.Need-returns-2
 returns-2 c =
     let t = c .before .before .before .before .before in
     let a = t .before .before .before .args in
-    let b = behind-start (t .before .start-never-ends .ensures) (t .before .before .long .ensures) (t .before-data .ensures) (c .before .before .before .before .if1 .left) in
+    let b = behind-start (a .f .factor) (a .place) (rw (← t .before .start-never-ends .ensures, ← t .before-data .ensures, ← t .before .before .long .ensures) (c .before .before .before .before .if1 .left)) in
     rw (c .data-level .ensures, c .before .data-bit .ensures) (sym (level-data (a .f) (a .c) (a .place) (b .1) (omega arith)))
 
 returns-3 : tie.Need-returns-3
@@ -35,7 +35,7 @@ returns-4 : tie.Need-returns-4
 returns-4 c =
     let t = c .before .before .before .before .before in
     let a = t .before .before .before .args in
-    let b = behind-start (t .before .start-never-ends .ensures) (t .before .before .long .ensures) (t .before-data .ensures) (c .before .before .before .before .if1 .left) in
+    let b = behind-start (a .f .factor) (a .place) (rw (← t .before .start-never-ends .ensures, ← t .before-data .ensures, ← t .before .before .long .ensures) (c .before .before .before .before .if1 .left)) in
     sym (level-stop (a .f) (a .c) (a .place) (b .0) (omega arith))
 
 pub level-spec : {M : Type 1} → statement M
