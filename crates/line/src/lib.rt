@@ -158,7 +158,8 @@ fn parity_level(f: Format, c: u8) -> bool
     parity_bit(f, kept)
 }
 
-// A factor of 0, out of range, ends no bit: every place is in the start, where the boundaries alone would answer the stop.
+// A factor of 0 is out of range: by the definition, where `place / 0` is 0, every place is then in the start. The boundaries
+// alone, all 0, would answer the stop.
 fn start_never_ends(f: Format) -> bool
     ensures { λ r. ⌜ r ≡ eqb (f .factor) 0 ⌝ }
 {
@@ -178,7 +179,7 @@ fn data_bit(f: Format, place: u16) -> u16
 pub fn level(f: Format, c: u8, place: u16) -> bool
     ensures { λ r. ⌜ r ≡ Sending.level f c place ⌝ }
 {
-    let at = long(place);
+    let at = long(place); // as wide as the boundaries
     if start_never_ends(f) | (at < before_data(f)) {
         return false;
     }

@@ -1,4 +1,4 @@
--- `line::data_bit` meets its contract. The code's quotient is the definition's.
+-- `line::data_bit` meets its contract. The code's quotient is the contract's.
 -- Assumes nothing.
 use borrow.Author.Needs.{needs}
 use Rattle.line.proofs.data_bit.Statement.{statement}
