@@ -35,7 +35,8 @@ enum {
     INS2651_NOT_NORMAL_OPERATION = 5  /* a command with bit 6 or 7 set */
 };
 
-/* The bits of the status register. The three error flags stay until reset error or reset. */
+/* The bits of the status register. The three error flags stay until reset error, a command without receive enable, or a reset: no read,
+   no good character and no tick clears them. */
 enum {
     INS2651_STATUS_TXRDY = 1,     /* the sender may be written */
     INS2651_STATUS_RXRDY = 2,     /* a character is unread */
@@ -51,7 +52,7 @@ enum {
 enum {
     INS2651_COMMAND_TRANSMIT = 1,      /* transmit enable */
     INS2651_COMMAND_DTR = 2,           /* makes the output DTR low */
-    INS2651_COMMAND_RECEIVE = 4,       /* receive enable */
+    INS2651_COMMAND_RECEIVE = 4,       /* receive enable; a command without it clears the error flags and RXRDY at the write */
     INS2651_COMMAND_BREAK = 8,         /* sends 0 while no frame is under way, with transmit on and CTS low */
     INS2651_COMMAND_RESET_ERROR = 16,  /* clears the error flags at the write, and reads back as 0 */
     INS2651_COMMAND_RTS = 32           /* makes the output RTS low */

@@ -138,6 +138,23 @@ static void status_of_the_pins(void) {
     holds(status(&chip) == INS2651_STATUS_DCD, "a status read clears the change");
 }
 
+/* A chip with all three error flags, which receives five bits with odd parity, and the status that it shows. */
+static void receive_off_and_on(ins2651 chip, int seen) {
+    ins2651_write(&chip, INS2651_COMMAND, INS2651_COMMAND_RECEIVE | INS2651_COMMAND_DTR);
+    holds(status(&chip) == seen, "a command with INS2651_COMMAND_RECEIVE leaves the error flags");
+    ins2651_write(&chip, INS2651_COMMAND, INS2651_COMMAND_DTR);
+    holds(status(&chip) == (INS2651_STATUS_DSR | INS2651_STATUS_DCD), "one without it clears them, and INS2651_STATUS_RXRDY");
+    /* no call brings a flag while receive is off; a device in range may have one */
+    chip.flags.framing = chip.flags.overrun = chip.flags.parity = 1;
+    hears(&chip, "101");
+    holds(chip.flags.framing == 1 && chip.flags.overrun == 1 && chip.flags.parity == 1, "ticks without it leave the error flags");
+    ins2651_write(&chip, INS2651_COMMAND, INS2651_COMMAND_DTR);
+    holds(status(&chip) == (INS2651_STATUS_DSR | INS2651_STATUS_DCD), "one without it clears them also where receive was off");
+    ins2651_write(&chip, INS2651_COMMAND, INS2651_COMMAND_RECEIVE | INS2651_COMMAND_DTR);
+    hears(&chip, "1" "01000001");
+    holds(status(&chip) == (INS2651_STATUS_DSR | INS2651_STATUS_DCD | INS2651_STATUS_RXRDY), "a good character after that has no flag");
+}
+
 /* Five bits, odd parity, a tick a bit: the mark, then 0, five data bits, the parity, the stop. */
 static void status_of_the_receiver(void) {
     ins2651 chip = set_up(INS2651_MODE1(5, INS2651_PARITY_ODD, INS2651_STOP_1, 1), INS2651_COMMAND_RECEIVE);
@@ -153,6 +170,7 @@ static void status_of_the_receiver(void) {
     holds(chip.flags.parity == 1 && chip.flags.framing == 0, "the field of a wrong parity");
     hears(&chip, "01000000");
     holds(status(&chip) == (seen |= INS2651_STATUS_FRAMING), "INS2651_STATUS_FRAMING of a stop of 0");
+    receive_off_and_on(chip, seen);
     ins2651_write(&chip, INS2651_COMMAND, INS2651_COMMAND_RECEIVE | INS2651_COMMAND_RESET_ERROR);
     holds(status(&chip) == (INS2651_STATUS_DSR | INS2651_STATUS_DCD | INS2651_STATUS_RXRDY), "INS2651_COMMAND_RESET_ERROR");
     holds(ins2651_read(&chip, INS2651_COMMAND) == INS2651_COMMAND_RECEIVE, "INS2651_COMMAND_RESET_ERROR reads back as 0");

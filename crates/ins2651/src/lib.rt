@@ -545,10 +545,11 @@ fn stored(v: u8) -> u8
     v - v / 16 % 2 * 16
 }
 
+// Reset error, or receive left off (P1).
 fn command_clears(v: u8) -> bool
     ensures { λ r. ⌜ r ≡ Modes.commandClears v ⌝ }
 {
-    has(16, v)
+    has(16, v) | !has(4, v)
 }
 
 fn flags_commanded(f: Flags, v: u8) -> Flags

@@ -18,5 +18,6 @@ pub mod ModeCodes
 pub mod PointersMove
 pub mod ReadByHistory
 pub mod Rules
+pub mod ReceiverOff
 pub mod StatusBits
 pub mod Premises

@@ -1,4 +1,4 @@
--- Rules of document 01 that are easily lost, each as a law of the calls.
+-- Rules of document 01, and of request P1, that are easily lost, each as a law of the calls.
 -- Assumes nothing.
 use Prim.Native.Nat.{ℕ, _-_}
 use mathlib.Core.Path.{_≡_, refl, sym, ap, _∙_}
@@ -22,7 +22,7 @@ use Rattle.ins2651_rules.specs.Ranges.{inRange, settled}
 use Rattle.ins2651_rules.specs.Refusals.{commandRefusal, writeRefusal}
 use Rattle.ins2651_rules.specs.RegisterReads.{readRegister}
 use Rattle.ins2651_rules.specs.RegisterWrites.{stored, writeRegister}
-use Rattle.ins2651_rules.specs.Ticks.{sent, transmitTick, transmit, receiveTick}
+use Rattle.ins2651_rules.specs.Ticks.{sent, transmitTick, transmit, receivedBy, receiveTick}
 use Rattle.ins2651_rules.specs.Runs.{Reset, Read, Write, Transmit, Receive, next, said}
 use Rattle.ins2651_rules.specs.Rows.{refusal}
 use Rattle.ins2651_rules.proofs.Settled.{settled-is}
@@ -103,6 +103,14 @@ off-tick-drops d x h r n =
     ap (λ (e : Device). e .receiver) (does-receive d h x n)
     ∙ ap (λ (live : Bool). link-hearing.receive (d .receiver) live (receiveFormat (d .registers)) (on x) .half) r
     ∙ ap (λ (o : Received). o .half) (receive-off (d .receiver) (receiveFormat (d .registers)) (on x))
+
+-- .. and such a tick sets no flag and clears none
+pub off-tick-keeps-flags : (d : Device) (x : ℕ) → inRange d ≡ true → listening d ≡ false → refusal d (Receive x) ≡ 0 → next d (Receive x) .flags ≡ d .flags
+unfolding receiveTick
+off-tick-keeps-flags d x h r n =
+    ap (λ (e : Device). e .flags) (does-receive d h x n)
+    ∙ ap (λ (live : Bool). receivedBy d (link-hearing.receive (d .receiver) live (receiveFormat (d .registers)) (on x)) .flags) r
+    ∙ ap (λ (o : Received). receivedBy d o .flags) (receive-off (d .receiver) (receiveFormat (d .registers)) (on x))
 
 -- an accepted command
 commanded : (d : Device) (v : ℕ) → inRange d ≡ true → commandRefusal v ≡ 0 → next d (Write 3 v) ≡ writeRegister d 3 v

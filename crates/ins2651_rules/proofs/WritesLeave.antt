@@ -4,7 +4,7 @@
 use Prim.Native.Nat.{ℕ, _<_}
 use native.Mathlib.Omega.{arith}
 use mathlib.Core.Path.{_≡_, refl, sym, subst}
-use mathlib.Core.Bool.{true, false}
+use mathlib.Core.Bool.{Bool, true, false}
 use lib.Dec.{eqb}
 use borrow.Author.Tests.{eq-eqb, ne-eqb}
 use Rattle.line_rules.proofs.Choice.{either}
@@ -16,7 +16,7 @@ use Rattle.ins2651_rules.specs.declared.Outcome.{Outcome}
 use Rattle.ins2651_rules.specs.Modes.{has}
 use Rattle.ins2651_rules.specs.Ranges.{settled}
 use Rattle.ins2651_rules.specs.Refusals.{writeRefusal}
-use Rattle.ins2651_rules.specs.RegisterWrites.{writeRegister}
+use Rattle.ins2651_rules.specs.RegisterWrites.{flagsCommanded, writeRegister}
 use Rattle.ins2651_rules.specs.Runs.{Write, next}
 use Rattle.ins2651_rules.specs.Rows.{refusal}
 use Rattle.ins2651_rules.specs.ReadHistory.{withoutBit4}
@@ -162,12 +162,29 @@ pub record NoErrors (f : Flags) : Type 0 where
   pub overrun : f .overrun ≡ 0
   pub parity : f .parity ≡ 0
 
--- all bits of the value but bit 4 are stored. Bit 4 is reset error, bit 0 transmit enable, bit 2 receive enable: off, it empties RHR, which still
--- gives its character, and leaves nothing under way and a wait for a 1
+-- bit 4 clears the three error flags ..
+pub reset-error-clears : (f : Flags) (v : ℕ) → has 16 v ≡ true → NoErrors (flagsCommanded f v)
+reset-error-clears f v t = rw t (record { framing = refl; overrun = refl; parity = refl })
+
+-- .. so does bit 2 at 0, whatever bit 4 says (P1) ..
+pub receive-off-clears : (f : Flags) (v : ℕ) → has 4 v ≡ false → NoErrors (flagsCommanded f v)
+receive-off-clears f v off = by-bit-4 (has 16 v) refl
+  where
+    by-bit-4 : (b : Bool) → has 16 v ≡ b → NoErrors (flagsCommanded f v)
+    by-bit-4 true e = rw e (record { framing = refl; overrun = refl; parity = refl })
+    by-bit-4 false e = rw (e, off) (record { framing = refl; overrun = refl; parity = refl })
+
+-- .. and no other command does: with bit 2 at 1 and bit 4 at 0 they stay, whatever the other bits say
+pub other-commands-keep : (f : Flags) (v : ℕ) → has 4 v ≡ true → has 16 v ≡ false → SameErrors f (flagsCommanded f v)
+other-commands-keep f v s t = rw (s, t) (record { framing = refl; overrun = refl; parity = refl })
+
+-- all bits of the value but bit 4 are stored. Bit 4 is reset error, bit 0 transmit enable, bit 2 receive enable: off, it clears the error flags as
+-- reset error does (P1), empties RHR, which still gives its character, and leaves nothing under way and a wait for a 1
 pub record CommandWritten (v : ℕ) (d e : Device) : Type 0 where
   pub command : e .registers .command ≡ withoutBit4 v
   pub errors-cleared : has 16 v ≡ true → NoErrors (e .flags)
-  pub errors-kept : has 16 v ≡ false → SameErrors (d .flags) (e .flags)
+  pub errors-off : has 4 v ≡ false → NoErrors (e .flags)
+  pub errors-kept : has 4 v ≡ true → has 16 v ≡ false → SameErrors (d .flags) (e .flags)
   pub empty-cleared : has 1 v ≡ false → e .flags .empty ≡ 0
   pub empty-kept : has 1 v ≡ true → e .flags .empty ≡ d .flags .empty
   pub receiver-off : has 4 v ≡ false → Dropped (d .receiver) 0 (e .receiver)
@@ -183,8 +200,9 @@ unfolding writeRegister
 command-written d v =
     record {
       command = omega arith;
-      errors-cleared = λ t. rw t (record { framing = refl; overrun = refl; parity = refl });
-      errors-kept = λ t. rw t (record { framing = refl; overrun = refl; parity = refl });
+      errors-cleared = reset-error-clears (d .flags) v;
+      errors-off = receive-off-clears (d .flags) v;
+      errors-kept = other-commands-keep (d .flags) v;
       empty-cleared = λ t. rw t;
       empty-kept = λ t. rw t;
       receiver-off = λ t. rw t (record { state = refl; format = refl; holding = refl; unread = refl });

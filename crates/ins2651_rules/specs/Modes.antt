@@ -1,7 +1,7 @@
--- What the mode registers and a command say, bit by bit: document 01, "Registers".
+-- What the mode registers and a command say, bit by bit: document 01, "Registers", with request P1 on what clears the error flags.
 -- Assumes nothing.
 use Prim.Native.Nat.{ℕ, _+_, _*_, _/_, _%_}
-use mathlib.Core.Bool.{Bool, cond}
+use mathlib.Core.Bool.{Bool, cond, not, _||_}
 use lib.Dec.{eqb}
 use Rattle.line_rules.specs.declared.Format.{Format}
 use Rattle.ins2651_rules.specs.declared.Registers.{Registers}
@@ -53,9 +53,12 @@ receiveEnable v = has 4 v
 abbrev pub forceBreak : ℕ → Bool
 forceBreak v = has 8 v
 
+abbrev pub resetError : ℕ → Bool
+resetError v = has 16 v
+
 abbrev pub requestToSend : ℕ → Bool
 requestToSend v = has 32 v
 
--- the commands that clear framing, overrun and parity: bit 4, reset error
+-- the commands that clear framing, overrun and parity: reset error, and every one that leaves receive off (P1)
 abbrev pub commandClears : ℕ → Bool
-commandClears v = has 16 v
+commandClears v = resetError v || not (receiveEnable v)

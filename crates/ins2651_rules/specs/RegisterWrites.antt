@@ -48,7 +48,7 @@ stored v = v - v / 16 % 2 * 16
 abbrev pub unless : Bool → ℕ → ℕ
 unless t x = cond t 0 x
 
--- reset error clears framing, overrun and parity; transmit left off clears the empty-mark
+-- reset error, and receive left off, clear framing, overrun and parity; transmit left off clears the empty-mark
 abbrev pub flagsCommanded : Flags → ℕ → Flags
 flagsCommanded f v =
     withEmpty

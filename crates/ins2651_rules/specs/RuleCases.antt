@@ -1,4 +1,4 @@
--- Rules of document 01 as computed scripts, beside the starred bench cases: calls from reset, each with what it answers where that can be seen
+-- Rules of document 01 and of request P1 as computed scripts, beside the starred bench cases: calls from reset, each with what it answers where that can be seen
 -- (proofs/RuleRows.antt). They see the chip through its calls alone, so that a rule that is wrong in its one definition is refused here. What a
 -- SYN write stores cannot be seen from outside yet: no call gives it.
 -- Assumes nothing.
@@ -68,6 +68,9 @@ overrun16 = 16
 
 abbrev parity8 : ℕ
 parity8 = 8
+
+abbrev allThree56 : ℕ
+allThree56 = framing32 + overrun16 + parity8
 
 abbrev eitherMark4 : ℕ
 eitherMark4 = 4
@@ -204,6 +207,10 @@ stopOf0 = RxD (1 ∷ 0 ∷ 1 ∷ 0 ∷ 0 ∷ 0 ∷ 0 ∷ 1 ∷ 0 ∷ [])
 abbrev wrongBoth : Step
 wrongBoth = RxD (1 ∷ 0 ∷ 1 ∷ 0 ∷ 0 ∷ 0 ∷ 0 ∷ 0 ∷ 0 ∷ [])
 
+-- a character that sets parity, and a second that finds it unread and sets framing
+abbrev badCell : List Step
+badCell = hearing ++ wrongParity ∷ stopOf0 ∷ Status (pinsLow192 + allThree56 + unread2 + ready1) ∷ []
+
 abbrev hearingScripts : List (List Step)
 hearingScripts =
     -- a good character: unread until RHR is read, and given again after it
@@ -224,11 +231,16 @@ hearingScripts =
     ∷ (hearing ++ stopOf0 ∷ Status (pinsLow192 + framing32 + unread2 + ready1) ∷ [])
     -- a wrong parity and a stop of 0 of one character are told independently
     ∷ (hearing ++ wrongBoth ∷ Status (pinsLow192 + framing32 + parity8 + unread2 + ready1) ∷ [])
-    -- commands with bit 4 at 0 leave all three, one with bit 4 at 1 clears all three
-    ∷ (hearing ++ wrongParity ∷ stopOf0 ∷ Status (pinsLow192 + framing32 + overrun16 + parity8 + unread2 + ready1)
-    ∷ command enabled ∷ Status (pinsLow192 + framing32 + overrun16 + parity8 + unread2 + ready1)
-    ∷ command (enabled + 2 + 8 + 32) ∷ Status (pinsLow192 + framing32 + overrun16 + parity8 + unread2 + ready1)
+    -- commands that leave receive on with bit 4 at 0 leave all three, one with bit 4 at 1 clears all three
+    ∷ (badCell ++ command enabled ∷ Status (pinsLow192 + allThree56 + unread2 + ready1)
+    ∷ command (enabled + 2 + 8 + 32) ∷ Status (pinsLow192 + allThree56 + unread2 + ready1)
     ∷ command (enabled + 16) ∷ Status (pinsLow192 + unread2 + ready1) ∷ [])
+    -- P1: a command that leaves receive off clears all three at once, with bit 4 at 0 or 1, and once receive is on the next good character has no flag
+    ∷ (badCell ++ command 1 ∷ Status (pinsLow192 + ready1) ∷ command enabled ∷ good ∷ Status (pinsLow192 + unread2 + ready1) ∷ Reads 0 1 ∷ [])
+    ∷ (badCell ++ command (1 + 2 + 8 + 16 + 32) ∷ Status (pinsLow192 + ready1) ∷ [])
+    -- a refused command, ticks while DCD is high, a status read, a data read and a good character clear none
+    ∷ (badCell ++ Refused (Write 3 (1 + 64)) 5 ∷ Do (SetPins 0 1 0) ∷ RxD (ones 2) ∷ lowersAll ∷ Status (pinsLow192 + allThree56 + eitherMark4 + unread2 + ready1)
+    ∷ Reads 0 1 ∷ good ∷ Status (pinsLow192 + allThree56 + unread2 + ready1) ∷ [])
     ∷ []
 
 abbrev pub scripts : List (List Step)

@@ -409,7 +409,7 @@ fn worked_session() {
 }
 
 // The fault code 255 sent with even parity (126) and received with odd (94); a good weight after it, with the mode mended.
-// The parity flag stays until reset error.
+// The good weight leaves the parity flag, reset error clears it.
 fn fault_code() {
     text(b"K\tfault\n");
     let fresh = fresh_pair(set_up(126, 0, 5), set_up(94, 0, 5));

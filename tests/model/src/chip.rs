@@ -4,7 +4,7 @@
 //! The sender holds the levels that are left of the frame under way, and the
 //! receiver the samples of the character under way, so both lean on the frame
 //! and the reading of the crate's root. The sections named are those of
-//! document 01.
+//! document 01; P1 is that request of document 02, the change requests.
 
 use crate::{character_at, frame, Character, Format};
 use std::collections::VecDeque;
@@ -20,9 +20,9 @@ const NOT_NORMAL_OPERATION: u8 = 5;
 // The bits of the command ("Registers").
 const TRANSMIT: u8 = 1;
 const DTR: u8 = 2;
-const RECEIVE: u8 = 4;
+pub const RECEIVE: u8 = 4;
 const BREAK: u8 = 8;
-const RESET_ERROR: u8 = 16;
+pub const RESET_ERROR: u8 = 16;
 const RTS: u8 = 32;
 
 // The clock bits of mode 2.
@@ -218,7 +218,9 @@ impl Chip {
 
     fn take_command(&mut self, value: u8) {
         self.command = value & !RESET_ERROR;
-        if value & RESET_ERROR != 0 {
+        // Receive off clears the flags as reset error does: P1, which mends
+        // "Registers".
+        if value & RESET_ERROR != 0 || !self.commanded(RECEIVE) {
             self.framing = false;
             self.overrun = false;
             self.parity = false;

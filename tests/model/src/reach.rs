@@ -2,7 +2,8 @@
 //! which one of its names stays at 0 has not tested what it is for.
 
 use crate::calls::{Call, Garbage, Lent, Line};
-use crate::chip::{decode, Chip, View, INTERNAL_RECEIVE_CLOCK, INTERNAL_TRANSMIT_CLOCK};
+use crate::chip::{decode, Chip, View, RECEIVE, RESET_ERROR};
+use crate::chip::{INTERNAL_RECEIVE_CLOCK, INTERNAL_TRANSMIT_CLOCK};
 use crate::generate::{accepted_mode, ACCEPTED_MODES};
 use crate::session::{lines, Bench, Pair, Record, Unit};
 use crate::Format;
@@ -12,7 +13,7 @@ use std::process::ExitCode;
 const FLAGS: [(u8, &str); 3] = [(8, "parity flag"), (16, "overrun"), (32, "framing flag")];
 
 /// What every run of chips has to reach.
-const OF_CHIPS: [&str; 27] = [
+const OF_CHIPS: [&str; 31] = [
     "internal transmit clock",
     "external transmit clock",
     "internal receive clock",
@@ -32,6 +33,10 @@ const OF_CHIPS: [&str; 27] = [
     "overrun",
     "parity flag",
     "framing flag",
+    "flags cleared by receive off",
+    "overrun cleared by receive off",
+    "parity flag cleared by receive off",
+    "framing flag cleared by receive off",
     "empty-mark",
     "change-mark",
     "arrival",
@@ -196,11 +201,30 @@ impl Reach {
     }
 
     /// A write that is done.
-    fn written(&mut self, address: u8, before: &View) {
+    fn written(&mut self, address: u8, value: u8, before: &View, after: &View) {
         match address {
             2 => self.inside("mode write", before),
-            3 => self.inside("command write", before),
+            3 => {
+                self.inside("command write", before);
+                // Reset error clears the flags too, whatever receive is.
+                if value & (RECEIVE + RESET_ERROR) == 0 {
+                    self.cleared(before.status & !after.status);
+                }
+            }
             _ => {}
+        }
+    }
+
+    /// A command that left receive off, and the status bits that fell with it (P1
+    /// of the change requests).
+    fn cleared(&mut self, fallen: u8) {
+        if FLAGS.iter().any(|(bit, _)| fallen & bit != 0) {
+            self.count("flags cleared by receive off");
+        }
+        for (bit, name) in FLAGS {
+            if fallen & bit != 0 {
+                self.count(&format!("{name} cleared by receive off"));
+            }
         }
     }
 
@@ -281,7 +305,7 @@ impl Reach {
         }
         match *call {
             Call::Reset => self.reset(before),
-            Call::Write(address, _) => self.written(address, before),
+            Call::Write(address, value) => self.written(address, value, before, after),
             Call::Pins(_) => self.pinned(before, after),
             Call::Transmit => self.transmitted(before, after),
             Call::Receive(_) => {
@@ -343,7 +367,10 @@ impl Bench for Watched<'_> {
         let answer = self.pair.act(record)?;
         let after = self.views();
         match record {
-            Record::Write(unit, address, _) => self.reach.written(address, &before[index(unit)]),
+            Record::Write(unit, address, value) => {
+                let (before, after) = (&before[index(unit)], &after[index(unit)]);
+                self.reach.written(address, value, before, after);
+            }
             Record::Pins(unit, _) => self.reach.pinned(&before[index(unit)], &after[index(unit)]),
             Record::Reset(unit) => self.reach.reset(&before[index(unit)]),
             Record::Read(..) | Record::JoinedTicks(_) => {}

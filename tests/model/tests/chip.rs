@@ -1,5 +1,6 @@
 //! The chip, call by call: the cases of the document's section "The bench
-//! cases", the session it works out, and its rules one by one.
+//! cases", the session it works out, and its rules one by one, as P1 of the
+//! change requests mends them.
 
 use model::chip::{set_up, Chip};
 use model::{frame, read, Format};
@@ -11,6 +12,7 @@ const MARK: u8 = 4;
 const PARITY: u8 = 8;
 const OVERRUN: u8 = 16;
 const FRAMING: u8 = 32;
+const FLAGS: u8 = PARITY + OVERRUN + FRAMING;
 /// DSR and DCD low.
 const PINS: u8 = 128 + 64;
 
@@ -83,6 +85,30 @@ fn recording(counts: &[usize]) -> Vec<u8> {
         levels.extend(vec![(i % 2) as u8; count]);
     }
     levels
+}
+
+/// Mark, then 255 in 8 bits odd with a factor of 1: a good character.
+const GOOD: [u8; 12] = [1, 0, 1, 1, 1, 1, 1, 1, 1, 1, 1, 1];
+
+/// Each error flag alone, and all three.
+const FLAG_SETS: [u8; 4] = [PARITY, OVERRUN, FRAMING, FLAGS];
+
+/// A receiver of 8 bits odd with a factor of 1 that holds an unread character
+/// and has exactly `flags`, one of the sets above.
+fn flagged(flags: u8) -> Chip {
+    let mut chip = receiver(93);
+    let levels = match flags {
+        // 0 with a parity bit of 0 and a good stop.
+        PARITY => recording(&[10, 1]),
+        OVERRUN => [GOOD, GOOD].concat(),
+        // 0 with its parity bit of 1 and a stop of 0.
+        FRAMING => recording(&[9, 1, 1]),
+        // Twice 0 with a parity bit of 0 and a stop of 0.
+        _ => [recording(&[11]), recording(&[11])].concat(),
+    };
+    hear(&mut chip, &levels);
+    assert_eq!(status(&mut chip), UNREAD + flags);
+    chip
 }
 
 /// Levels of a frame as a list of numbers.
@@ -510,18 +536,13 @@ fn one_and_a_half_stop_bits() {
 
 #[test]
 fn reset_error_acts_once_and_reads_back_as_0() {
-    let mut chip = unmarked(93, 0, RECEIVE);
-    // 8 bits odd: two characters 0 of wrong parity and with a stop of 0.
-    for _ in 0..2 {
-        hear(&mut chip, &recording(&[11]));
-    }
-    let flags = PARITY + OVERRUN + FRAMING;
-    assert_eq!(status(&mut chip), UNREAD + flags);
-    // Without bit 4 a command clears nothing, not even one that turns all off.
-    put(&mut chip, 3, 0);
-    assert_eq!(status(&mut chip), flags);
+    let mut chip = flagged(FLAGS);
+    get(&mut chip, 0);
+    // Without bit 4 a command that leaves receive on clears nothing.
+    put(&mut chip, 3, RECEIVE + 2);
+    assert_eq!(status(&mut chip), FLAGS);
     assert_eq!(chip.write(3, 64 + RESET_ERROR), 5);
-    assert_eq!(status(&mut chip), flags);
+    assert_eq!(status(&mut chip), FLAGS);
     // With it the flags go, and the other bits act too.
     put(&mut chip, 3, RESET_ERROR + RECEIVE);
     assert_eq!(get(&mut chip, 3), RECEIVE);
@@ -531,6 +552,11 @@ fn reset_error_acts_once_and_reads_back_as_0() {
     assert_eq!(status(&mut chip), UNREAD + PARITY + FRAMING);
     put(&mut chip, 3, RESET_ERROR + RECEIVE);
     assert_eq!(status(&mut chip), UNREAD);
+    // Without bit 4 a command that leaves receive off clears them too: P1.
+    hear(&mut chip, &recording(&[11]));
+    assert_eq!(status(&mut chip), UNREAD + FLAGS);
+    put(&mut chip, 3, 0);
+    assert_eq!(status(&mut chip), 0);
 }
 
 #[test]
@@ -976,20 +1002,19 @@ fn wrong_parity_and_a_stop_of_0_and_overrun() {
 
 #[test]
 fn flags_outlast_good_characters_and_reads() {
-    // As above, then 255 with its parity bit and a good stop.
-    let mut chip = receiver(93);
-    let flags = PARITY + OVERRUN + FRAMING;
-    hear(&mut chip, &recording(&[11]));
-    hear(&mut chip, &recording(&[11]));
-    get(&mut chip, 0);
-    for _ in 0..3 {
-        hear(&mut chip, &recording(&[1, 10]));
-        assert_eq!(status(&mut chip), UNREAD + flags);
-        assert_eq!(get(&mut chip, 0), 255);
+    for flags in FLAG_SETS {
+        let mut chip = flagged(flags);
+        get(&mut chip, 0);
         assert_eq!(status(&mut chip), flags);
+        for _ in 0..3 {
+            hear(&mut chip, &GOOD);
+            assert_eq!(status(&mut chip), UNREAD + flags);
+            assert_eq!(get(&mut chip, 0), 255);
+            assert_eq!(status(&mut chip), flags);
+        }
+        chip.reset();
+        assert_eq!(get(&mut chip, 1), 0);
     }
-    chip.reset();
-    assert_eq!(get(&mut chip, 1), 0);
 }
 
 #[test]
@@ -1027,5 +1052,106 @@ fn the_chip_hears_what_the_reading_reads() {
             }
         }
         assert_eq!(expected.next(), None);
+    }
+}
+
+// P1: the flags after receive is switched off.
+
+/// The commands of normal operation that leave receive off.
+fn off_commands() -> impl Iterator<Item = u8> {
+    (0..64).filter(|value| value & RECEIVE == 0)
+}
+
+#[test]
+fn receive_off_clears_the_flags() {
+    for flags in FLAG_SETS {
+        for value in off_commands() {
+            let mut chip = flagged(flags);
+            put(&mut chip, 3, value);
+            // Ready to send is transmit enabled, as THR is empty.
+            assert_eq!(status(&mut chip), value & TRANSMIT, "by {value}");
+            // Reset error adds nothing to it.
+            let mut reset = flagged(flags);
+            put(&mut reset, 3, value | RESET_ERROR);
+            assert_eq!(status(&mut reset), value & TRANSMIT);
+            assert_eq!(chip, reset, "by {value}");
+        }
+    }
+}
+
+#[test]
+fn receive_off_again_brings_no_flag_back() {
+    // No flag is set while receive is off, so the second such command finds
+    // none to clear.
+    for flags in FLAG_SETS {
+        for value in off_commands() {
+            let mut chip = flagged(flags);
+            put(&mut chip, 3, 0);
+            hear(&mut chip, &recording(&[11, 1, 11]));
+            put(&mut chip, 3, value);
+            assert_eq!(status(&mut chip), value & TRANSMIT, "by {value}");
+            put(&mut chip, 3, RECEIVE);
+            assert_eq!(status(&mut chip), 0, "by {value}");
+        }
+    }
+}
+
+#[test]
+fn receive_left_on_keeps_the_flags() {
+    let on = |value: &u8| value & (RECEIVE + RESET_ERROR) == RECEIVE;
+    for flags in FLAG_SETS {
+        for value in (0..64).filter(on) {
+            let mut chip = flagged(flags);
+            put(&mut chip, 3, value);
+            let ready = value & TRANSMIT;
+            assert_eq!(status(&mut chip), UNREAD + flags + ready, "by {value}");
+        }
+    }
+}
+
+#[test]
+fn a_refused_command_keeps_the_flags() {
+    for flags in FLAG_SETS {
+        for value in 64..=255 {
+            let mut chip = flagged(flags);
+            assert_eq!(chip.write(3, value), 5);
+            assert_eq!(status(&mut chip), UNREAD + flags, "by {value}");
+        }
+    }
+}
+
+#[test]
+fn ticks_with_dcd_high_keep_the_flags() {
+    for flags in FLAG_SETS {
+        let mut chip = flagged(flags);
+        assert_eq!(chip.set_pins(0, 1, 0), 0);
+        assert_eq!(status(&mut chip), UNREAD + flags + MARK);
+        for level in [1, 0, 1] {
+            hear(&mut chip, &[level; 50]);
+            assert_eq!(status(&mut chip), UNREAD + flags);
+        }
+        assert_eq!(chip.set_pins(0, 0, 0), 0);
+        hear(&mut chip, &[1; 50]);
+        assert_eq!(status(&mut chip), UNREAD + flags + MARK);
+    }
+}
+
+#[test]
+fn the_cabinet_clears_a_bad_cell() {
+    for flags in FLAG_SETS {
+        // With ticks while receive is off, and without.
+        for pause in [recording(&[11, 30]), Vec::new()] {
+            let mut chip = flagged(flags);
+            put(&mut chip, 3, 0);
+            hear(&mut chip, &pause);
+            put(&mut chip, 3, RECEIVE);
+            assert_eq!(status(&mut chip), 0);
+            // A good character comes without a flag, a bad one with its own.
+            hear(&mut chip, &GOOD);
+            assert_eq!(status(&mut chip), UNREAD);
+            assert_eq!(get(&mut chip, 0), 255);
+            hear(&mut chip, &recording(&[11]));
+            assert_eq!(status(&mut chip), UNREAD + PARITY + FRAMING);
+        }
     }
 }

@@ -7,7 +7,7 @@ use model::generate::calls::{run, RUNS};
 use model::generate::{alike, session, Kind, KINDS, SESSIONS};
 use model::program::Program;
 use model::reach::Reach;
-use model::session::{answer, answer_on, Bench, Pair, Record};
+use model::session::{answer, answer_on, Bench, Pair, Record, Unit};
 use model::shorten::{self, shorten, smaller};
 use std::time::Duration;
 
@@ -118,6 +118,15 @@ fn a_good_character_clears_flags(chip: &mut Chip) {
     }
 }
 
+/// P1 of the change requests, done with DCD high too and not with receive off
+/// alone.
+fn a_tick_with_dcd_high_clears_flags(chip: &mut Chip) {
+    let view = chip.view();
+    if view.pins[1] == 1 {
+        chip.write(3, view.command | 16);
+    }
+}
+
 /// A break that has no guard behind it.
 fn no_guard(chip: &mut Chip) {
     while chip.view().guard > 0 && chip.view().command & 8 == 0 {
@@ -126,7 +135,8 @@ fn no_guard(chip: &mut Chip) {
 }
 
 // The modes, commands and pins of both ends, a character, ticks and a status are
-// nine lines; a second character after the first makes them eleven.
+// nine lines; a further command makes them ten, and a second character after the
+// first, or new pins and a tick, eleven.
 
 #[test]
 fn a_bench_that_never_overruns_is_found() {
@@ -140,6 +150,49 @@ fn flags_that_a_good_character_clears_are_found() {
         wrong_answer(a_good_character_clears_flags, input)
     });
     assert!(lines(&shortest) <= 11, "{}", shortest.escape_ascii());
+}
+
+#[test]
+fn flags_that_a_tick_with_dcd_high_clears_are_found() {
+    let shortest = found(Kind::Realistic, |input| {
+        wrong_answer(a_tick_with_dcd_high_clears_flags, input)
+    });
+    assert!(lines(&shortest) <= 11, "{}", shortest.escape_ascii());
+}
+
+/// Document 01 without P1: what receive off clears stays in the status until
+/// reset error or a reset.
+struct WithoutP1 {
+    pair: Pair,
+    left: [u8; 2],
+}
+
+impl Bench for WithoutP1 {
+    fn act(&mut self, record: Record) -> Result<String, u8> {
+        let (Record::Write(unit, ..) | Record::Read(unit, _) | Record::Reset(unit)) = record else {
+            return self.pair.act(record);
+        };
+        let left = &mut self.left[usize::from(unit == Unit::B)];
+        let status = self.pair.chip(unit).view().status | *left;
+        let answer = self.pair.act(record)?;
+        match record {
+            Record::Reset(_) => *left = 0,
+            Record::Write(_, 3, value) if value & 16 != 0 => *left = 0,
+            Record::Write(_, 3, value) if value & 4 == 0 => *left = status & 56,
+            Record::Read(_, 1) => return Ok(format!("R\t{unit:?}\t1\t{status}\n")),
+            _ => {}
+        }
+        Ok(answer)
+    }
+}
+
+#[test]
+fn flags_that_receive_off_leaves_are_found() {
+    let shortest = found(Kind::Realistic, |input| {
+        let (pair, left) = (Pair::just_reset(), [0; 2]);
+        answer_on(&mut WithoutP1 { pair, left }, input)
+    });
+    assert!(lines(&shortest) <= 10, "{}", shortest.escape_ascii());
 }
 
 #[test]
@@ -175,6 +228,18 @@ fn a_count_of_one_too_many_that_is_taken_is_found() {
     };
     let shortest = found(Kind::Malformed, |input| answer_to_changed(input, taken));
     assert_eq!(shortest.trim_ascii_end(), b"L\t65536");
+}
+
+#[test]
+fn flags_that_a_command_with_receive_on_clears_are_found() {
+    // 55 is 39 with reset error.
+    let clearing = |line: &[u8]| match line {
+        b"W\tA\t3\t39" => b"W\tA\t3\t55".to_vec(),
+        b"W\tB\t3\t39" => b"W\tB\t3\t55".to_vec(),
+        _ => line.to_vec(),
+    };
+    let shortest = found(Kind::Realistic, |input| answer_to_changed(input, clearing));
+    assert!(lines(&shortest) <= 10, "{}", shortest.escape_ascii());
 }
 
 /// A command that leaves receive off drops the character under way ("Receiving").
@@ -388,4 +453,47 @@ fn a_false_start_is_reached_and_no_character() {
     let (report, _) = reach.report();
     assert!(report.contains("short pulse: 1\n"), "{report}");
     assert!(report.contains("arrival: 0 MISSING\n"), "{report}");
+}
+
+#[test]
+fn what_receive_off_alone_clears_is_counted() {
+    // 8 bits odd with a factor of 1: 0 with a parity bit of 0 and a stop of 0.
+    let levels = [[1].as_slice(), &[0; 11]].concat();
+    let set_up = [Call::Write(2, 93), Call::Write(3, 4), Call::Pins([0, 0, 0])];
+    let bad: Vec<Call> = set_up
+        .into_iter()
+        .chain(levels.into_iter().map(Call::Receive))
+        .collect();
+    // Not by reset error, with receive left on, or refused; and only once.
+    let once = [vec![0], vec![35, 0], vec![6, 64, 0], vec![4, 11, 20]];
+    let never = [vec![16], vec![4], vec![64], vec![20, 0], vec![]];
+    let all = once
+        .map(|commands| (commands, "1"))
+        .into_iter()
+        .chain(never.map(|commands| (commands, "0 MISSING")));
+    for (commands, count) in all {
+        let mut reach = Reach::of_calls();
+        let commands = commands.into_iter().map(|value| Call::Write(3, value));
+        let calls = bad.iter().copied().chain(commands);
+        reach.run(&calls.map(Line::Call).collect::<Vec<_>>());
+        let (report, _) = reach.report();
+        for name in ["flags", "parity flag", "framing flag"] {
+            let line = format!("\n{name} cleared by receive off: {count}\n");
+            assert!(report.contains(&line), "{report}");
+        }
+        assert!(report.contains("\noverrun cleared by receive off: 0 MISSING\n"));
+    }
+}
+
+#[test]
+fn no_flag_is_seen_while_receive_is_off() {
+    // It follows from P1: no character comes then.
+    for lines in (0..RUNS).map(run) {
+        let mut lent = Lent::InRange(Chip::just_reset());
+        for line in &lines {
+            lent.answer(line);
+            let view = lent.view();
+            assert!(view.command & 4 != 0 || view.status & 56 == 0);
+        }
+    }
 }

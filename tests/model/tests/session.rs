@@ -434,6 +434,24 @@ fn characters_go_both_ways() {
 }
 
 #[test]
+fn receive_off_and_on_clears_a_bad_character() {
+    // P1 of the change requests, after a break that comes as one character with
+    // framing.
+    let broken = "R B 1; W A 3 47; L 200; W A 3 39; L 20; R B 1; ";
+    let good = "; R B 1; W A 0 65; L 153; R B 1; R B 0; R B 1";
+    gives(
+        &format!("{SET_UP}{broken}W B 3 35; R B 1; W B 3 39; L 1{good}"),
+        "R B 1 197; R B 1 227; R B 1 193; R B 1 193; R B 1 195; R B 0 65; R B 1 193; N 25 0",
+    );
+    // Not with receive left on, nor with a command that is refused.
+    gives(
+        &format!("{SET_UP}{broken}R B 0; W B 3 39; R B 1; W B 3 67{good}"),
+        "R B 1 197; R B 1 227; R B 0 0; R B 1 225; E 19 5; R B 1 225; R B 1 227; R B 0 65; \
+        R B 1 225; N 25 1",
+    );
+}
+
+#[test]
 fn no_joined_ticks() {
     gives("L 0", "N 1 0");
     let input = format!("{SET_UP}W A 0 255; L 152; L 0; L 00; R B 1; L 1; L 0; R B 1");

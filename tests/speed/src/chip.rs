@@ -260,7 +260,8 @@ impl Chip {
 
     fn write_command(&mut self, value: u8) {
         self.command = value & !RESET_ERROR;
-        if value & RESET_ERROR != 0 {
+        // Receive off clears the flags as well: P1.
+        if value & RESET_ERROR != 0 || value & RECEIVE == 0 {
             self.framing = false;
             self.overrun = false;
             self.parity = false;
