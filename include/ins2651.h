@@ -52,7 +52,7 @@ enum {
 enum {
     INS2651_COMMAND_TRANSMIT = 1,      /* transmit enable */
     INS2651_COMMAND_DTR = 2,           /* makes the output DTR low */
-    INS2651_COMMAND_RECEIVE = 4,       /* receive enable; a command without it clears the error flags and RXRDY at the write */
+    INS2651_COMMAND_RECEIVE = 4,       /* receive enable; a command without it clears the error flags, and the unread mark, at the write */
     INS2651_COMMAND_BREAK = 8,         /* sends 0 while no frame is under way, with transmit on and CTS low */
     INS2651_COMMAND_RESET_ERROR = 16,  /* clears the error flags at the write, and reads back as 0 */
     INS2651_COMMAND_RTS = 32           /* makes the output RTS low */

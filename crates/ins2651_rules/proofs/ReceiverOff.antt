@@ -49,7 +49,7 @@ module _ (d : Device) (q : QuietWhileOff (settled d)) where
   write-quiet (suc (suc (suc zero))) v l n = let w = command-write-leaves d v n in λ t. w .errors-off (bit2-stored v ∙ ap (has 4) (sym (w .command)) ∙ t)
   write-quiet (suc (suc (suc (suc address)))) v l n = absurd (omega arith)
 
--- a tick while receive is off arrives at nothing
+-- while receive is off no tick looks at its sample
 off-is-deaf : (d : Device) → has 4 (d .registers .command) ≡ false → listening d ≡ false
 off-is-deaf d t = ap (λ (b : Bool). b && carrier d && modeSet d) t
 

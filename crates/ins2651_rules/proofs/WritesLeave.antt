@@ -171,8 +171,8 @@ pub receive-off-clears : (f : Flags) (v : ℕ) → has 4 v ≡ false → NoError
 receive-off-clears f v off = by-bit-4 (has 16 v) refl
   where
     by-bit-4 : (b : Bool) → has 16 v ≡ b → NoErrors (flagsCommanded f v)
-    by-bit-4 true e = rw e (record { framing = refl; overrun = refl; parity = refl })
-    by-bit-4 false e = rw (e, off) (record { framing = refl; overrun = refl; parity = refl })
+    by-bit-4 true e = rw (off, e) (record { framing = refl; overrun = refl; parity = refl })
+    by-bit-4 false e = rw (off, e) (record { framing = refl; overrun = refl; parity = refl })
 
 -- .. and no other command does: with bit 2 at 1 and bit 4 at 0 they stay, whatever the other bits say
 pub other-commands-keep : (f : Flags) (v : ℕ) → has 4 v ≡ true → has 16 v ≡ false → SameErrors f (flagsCommanded f v)

@@ -1,4 +1,4 @@
--- Register writes: document 01, "Registers". Address 0 is THR, 1 SYN1, SYN2 and DLE in turn, 2 mode 1 and mode 2 in turn, 3 command.
+-- Register writes: document 01, "Registers", with request P1. Address 0 is THR, 1 SYN1, SYN2 and DLE in turn, 2 mode 1 and mode 2 in turn, 3 command.
 -- Assumes nothing.
 use Prim.Native.Nat.{ℕ, _-_, _*_, _/_, _%_}
 use mathlib.Core.Bool.{Bool, cond, not}
@@ -48,7 +48,7 @@ stored v = v - v / 16 % 2 * 16
 abbrev pub unless : Bool → ℕ → ℕ
 unless t x = cond t 0 x
 
--- reset error, and receive left off, clear framing, overrun and parity; transmit left off clears the empty-mark
+-- reset error, and receive left off (P1), clear framing, overrun and parity; transmit left off clears the empty-mark
 abbrev pub flagsCommanded : Flags → ℕ → Flags
 flagsCommanded f v =
     withEmpty

@@ -216,7 +216,8 @@ impl Reach {
     }
 
     /// A command that left receive off, and the status bits that fell with it (P1
-    /// of the change requests).
+    /// of the change requests). That the runs also read a status where it shows is
+    /// tested by a bench without P1 (`tests/random.rs`).
     fn cleared(&mut self, fallen: u8) {
         if FLAGS.iter().any(|(bit, _)| fallen & bit != 0) {
             self.count("flags cleared by receive off");

@@ -487,7 +487,7 @@ fn what_receive_off_alone_clears_is_counted() {
 
 #[test]
 fn no_flag_is_seen_while_receive_is_off() {
-    // It follows from P1: no character comes then.
+    // P1 clears them, and no character comes while receive is off.
     for lines in (0..RUNS).map(run) {
         let mut lent = Lent::InRange(Chip::just_reset());
         for line in &lines {
