@@ -93,7 +93,7 @@ mode-put r h v (suc zero) l e = rw (ne-eqb (r .modes) 0 (λ z. omega arith))
 mode-put r h v (suc (suc m)) l e = absurd (omega arith)
 
 -- a command is kept with its bit 4 at 0 ..
-command-put : (v : ℕ) → stored v ≡ withoutBit4 v
+pub command-put : (v : ℕ) → stored v ≡ withoutBit4 v
 command-put v = omega arith
 
 -- .. and where it leaves receive off, RHR still gives what it last held

@@ -18,6 +18,7 @@ use Rattle.ins2651_rules.specs.declared.Device.{Device}
 use Rattle.ins2651_rules.specs.declared.Answer.{Answer}
 use Rattle.ins2651_rules.specs.Modes.{has, formatOf, sendFormat, receiveFormat, receiveEnable}
 use Rattle.ins2651_rules.specs.Conditions.{modeSet, mayStart, breakOn, listening}
+use Rattle.ins2651_rules.specs.Shape.{withReceiver}
 use Rattle.ins2651_rules.specs.Ranges.{inRange, settled}
 use Rattle.ins2651_rules.specs.Refusals.{commandRefusal, writeRefusal}
 use Rattle.ins2651_rules.specs.RegisterReads.{readRegister}
@@ -96,21 +97,13 @@ reset-clears d =
 
 -- == what drops a character ==
 
--- a receive tick while receive is off, DCD high or mode unset: RHR stays
-pub off-tick-drops : (d : Device) (x : ℕ) → inRange d ≡ true → listening d ≡ false → refusal d (Receive x) ≡ 0 → next d (Receive x) .receiver ≡ dropped (d .receiver)
+-- a receive tick while receive is off, DCD high or mode unset: RHR, the flags and all else stay
+pub off-tick-drops : (d : Device) (x : ℕ) → inRange d ≡ true → listening d ≡ false → refusal d (Receive x) ≡ 0 → next d (Receive x) ≡ withReceiver d (dropped (d .receiver)) (d .flags)
 unfolding receiveTick
 off-tick-drops d x h r n =
-    ap (λ (e : Device). e .receiver) (does-receive d h x n)
-    ∙ ap (λ (live : Bool). link-hearing.receive (d .receiver) live (receiveFormat (d .registers)) (on x) .half) r
-    ∙ ap (λ (o : Received). o .half) (receive-off (d .receiver) (receiveFormat (d .registers)) (on x))
-
--- .. and such a tick sets no flag and clears none
-pub off-tick-keeps-flags : (d : Device) (x : ℕ) → inRange d ≡ true → listening d ≡ false → refusal d (Receive x) ≡ 0 → next d (Receive x) .flags ≡ d .flags
-unfolding receiveTick
-off-tick-keeps-flags d x h r n =
-    ap (λ (e : Device). e .flags) (does-receive d h x n)
-    ∙ ap (λ (live : Bool). receivedBy d (link-hearing.receive (d .receiver) live (receiveFormat (d .registers)) (on x)) .flags) r
-    ∙ ap (λ (o : Received). receivedBy d o .flags) (receive-off (d .receiver) (receiveFormat (d .registers)) (on x))
+    does-receive d h x n
+    ∙ ap (λ (live : Bool). receivedBy d (link-hearing.receive (d .receiver) live (receiveFormat (d .registers)) (on x))) r
+    ∙ ap (receivedBy d) (receive-off (d .receiver) (receiveFormat (d .registers)) (on x))
 
 -- an accepted command
 commanded : (d : Device) (v : ℕ) → inRange d ≡ true → commandRefusal v ≡ 0 → next d (Write 3 v) ≡ writeRegister d 3 v

@@ -162,29 +162,32 @@ pub record NoErrors (f : Flags) : Type 0 where
   pub overrun : f .overrun ≡ 0
   pub parity : f .parity ≡ 0
 
--- bit 4 clears the three error flags ..
-pub reset-error-clears : (f : Flags) (v : ℕ) → has 16 v ≡ true → NoErrors (flagsCommanded f v)
-reset-error-clears f v t = rw t (record { framing = refl; overrun = refl; parity = refl })
+-- what a command does to the three error flags, by its bits: bit 4 clears them, so does bit 2 at 0, whatever bit 4 says (P1), and no other command does
+pub record ErrorsBy (v : ℕ) (f g : Flags) : Type 0 where
+  pub reset-error : has 16 v ≡ true → NoErrors g
+  pub receive-off : has 4 v ≡ false → NoErrors g
+  pub others : has 4 v ≡ true → has 16 v ≡ false → SameErrors f g
 
--- .. so does bit 2 at 0, whatever bit 4 says (P1) ..
-pub receive-off-clears : (f : Flags) (v : ℕ) → has 4 v ≡ false → NoErrors (flagsCommanded f v)
-receive-off-clears f v off = by-bit-4 (has 16 v) refl
+errors-by : (f : Flags) (v : ℕ) → ErrorsBy v f (flagsCommanded f v)
+errors-by f v =
+    record {
+      reset-error = cleared;
+      receive-off = λ off. by-bit-4 off (has 16 v) refl;
+      others = λ on kept. rw (on, kept) (record { framing = refl; overrun = refl; parity = refl });
+    }
   where
-    by-bit-4 : (b : Bool) → has 16 v ≡ b → NoErrors (flagsCommanded f v)
-    by-bit-4 true e = rw (off, e) (record { framing = refl; overrun = refl; parity = refl })
-    by-bit-4 false e = rw (off, e) (record { framing = refl; overrun = refl; parity = refl })
+    cleared : has 16 v ≡ true → NoErrors (flagsCommanded f v)
+    cleared e = rw e (record { framing = refl; overrun = refl; parity = refl })
 
--- .. and no other command does: with bit 2 at 1 and bit 4 at 0 they stay, whatever the other bits say
-pub other-commands-keep : (f : Flags) (v : ℕ) → has 4 v ≡ true → has 16 v ≡ false → SameErrors f (flagsCommanded f v)
-other-commands-keep f v s t = rw (s, t) (record { framing = refl; overrun = refl; parity = refl })
+    by-bit-4 : has 4 v ≡ false → (b : Bool) → has 16 v ≡ b → NoErrors (flagsCommanded f v)
+    by-bit-4 off true e = cleared e
+    by-bit-4 off false e = rw (off, e) (record { framing = refl; overrun = refl; parity = refl })
 
--- all bits of the value but bit 4 are stored. Bit 4 is reset error, bit 0 transmit enable, bit 2 receive enable: off, it clears the error flags as
--- reset error does (P1), empties RHR, which still gives its character, and leaves nothing under way and a wait for a 1
+-- all bits of the value but bit 4 are stored. Bit 0 is transmit enable, bit 2 receive enable: off, it empties RHR, which still gives its character,
+-- and leaves nothing under way and a wait for a 1
 pub record CommandWritten (v : ℕ) (d e : Device) : Type 0 where
   pub command : e .registers .command ≡ withoutBit4 v
-  pub errors-cleared : has 16 v ≡ true → NoErrors (e .flags)
-  pub errors-off : has 4 v ≡ false → NoErrors (e .flags)
-  pub errors-kept : has 4 v ≡ true → has 16 v ≡ false → SameErrors (d .flags) (e .flags)
+  pub errors : ErrorsBy v (d .flags) (e .flags)
   pub empty-cleared : has 1 v ≡ false → e .flags .empty ≡ 0
   pub empty-kept : has 1 v ≡ true → e .flags .empty ≡ d .flags .empty
   pub receiver-off : has 4 v ≡ false → Dropped (d .receiver) 0 (e .receiver)
@@ -200,9 +203,7 @@ unfolding writeRegister
 command-written d v =
     record {
       command = omega arith;
-      errors-cleared = reset-error-clears (d .flags) v;
-      errors-off = receive-off-clears (d .flags) v;
-      errors-kept = other-commands-keep (d .flags) v;
+      errors = errors-by (d .flags) v;
       empty-cleared = λ t. rw t;
       empty-kept = λ t. rw t;
       receiver-off = λ t. rw t (record { state = refl; format = refl; holding = refl; unread = refl });

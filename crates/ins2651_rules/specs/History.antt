@@ -10,7 +10,7 @@ use Rattle.line_rules.specs.declared.Heard.the-variants.{Nothing}
 use Rattle.line_rules.specs.Sending.{on, differ}
 use Rattle.link_rules.specs.Hearing.{arrives}
 use Rattle.ins2651_rules.specs.declared.Device.{Device}
-use Rattle.ins2651_rules.specs.Modes.{transmitEnable, receiveEnable, commandClears}
+use Rattle.ins2651_rules.specs.Modes.{transmitEnable, receiveOff, commandClears}
 use Rattle.ins2651_rules.specs.Status.{weigh}
 use Rattle.ins2651_rules.specs.Ranges.{settled}
 use Rattle.ins2651_rules.specs.Refusals.{commandRefusal}
@@ -40,9 +40,6 @@ commands p c = writes (λ (address : ℕ) (v : ℕ). eqb address 3 && p v) c
 
 abbrev pub transmitOff : ℕ → Bool
 transmitOff v = not (transmitEnable v)
-
-abbrev pub receiveOff : ℕ → Bool
-receiveOff v = not (receiveEnable v)
 
 abbrev pub anyCommand : ℕ → Bool
 anyCommand v = true

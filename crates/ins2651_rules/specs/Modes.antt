@@ -59,6 +59,10 @@ resetError v = has 16 v
 abbrev pub requestToSend : ℕ → Bool
 requestToSend v = has 32 v
 
+-- a command that leaves receive off, whatever receive was before
+abbrev pub receiveOff : ℕ → Bool
+receiveOff v = not (receiveEnable v)
+
 -- the commands that clear framing, overrun and parity: reset error, and every one that leaves receive off (P1)
 abbrev pub commandClears : ℕ → Bool
-commandClears v = resetError v || not (receiveEnable v)
+commandClears v = resetError v || receiveOff v
