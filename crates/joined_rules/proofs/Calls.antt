@@ -1,21 +1,22 @@
--- What the bench sees of a device in range is what stands in it, and an allowed call of a ready one leaves it ready.
+-- What the bench sees of a device in range is what stands in it; what a call leaves that is neither a reset, a tick nor a write of a mode or a command.
 -- Assumes nothing.
 use Prim.Native.Nat.{ℕ, zero, suc}
 use native.Mathlib.Omega.{arith}
-use mathlib.Core.Path.{_≡_, refl, sym, ap, subst, _∙_}
-use mathlib.Core.Bool.{Bool, true, false, _&&_, true≢false}
-use lib.Dec.{eqb}
-use borrow.Author.Tests.{eq-eqb, eqb-true, ne-eqb}
+use mathlib.Core.Path.{_≡_, refl, sym, ap, ap₂, _∙_}
+use mathlib.Core.Bool.{Bool, true, false, _||_, _&&_, true≢false}
+use lib.Dec.{eqb, ltb}
+use borrow.Author.Tests.{ltb-true, ne-eqb}
+use Rattle.line_rules.specs.declared.Format.{Format}
 use Rattle.line_rules.specs.Sending.{on}
-use Rattle.line_rules.proofs.Table.{both}
+use Rattle.line_rules.proofs.Choice.{either}
 use Rattle.link_rules.specs.declared.SenderHalf.{SenderHalf}
 use Rattle.link_rules.specs.declared.ReceiverHalf.{ReceiverHalf}
-use Rattle.line_rules.proofs.Choice.{either}
 use Rattle.ins2651_rules.specs.declared.Registers.{Registers}
 use Rattle.ins2651_rules.specs.declared.Pins.{Pins}
+use Rattle.ins2651_rules.specs.declared.Flags.{Flags}
 use Rattle.ins2651_rules.specs.declared.Device.{Device}
 use Rattle.ins2651_rules.specs.declared.Answer.{Answer}
-use Rattle.ins2651_rules.specs.Shape.{withParts, withRegisters, withEmpty, withChange}
+use Rattle.ins2651_rules.specs.Shape.{withParts, withRegisters, pinLevels, withEmpty, withChange}
 use Rattle.ins2651_rules.specs.Modes.{has}
 use Rattle.ins2651_rules.specs.Conditions.{transmitEnabled, vacant}
 use Rattle.ins2651_rules.specs.Ranges.{inRange}
@@ -24,22 +25,25 @@ use Rattle.ins2651_rules.specs.RegisterReads.{readRegister}
 use Rattle.ins2651_rules.specs.RegisterWrites.{writeRegister}
 use Rattle.ins2651_rules.specs.Pinning.{pinned}
 use Rattle.ins2651_rules.specs.Status.{statusByte}
-use Rattle.ins2651_rules.specs.Runs.{Call, Reset, Read, Write, SetPins, Transmit, Receive, Outputs, next}
+use Rattle.ins2651_rules.specs.Runs.{Call, Reset, Read, Write, SetPins, Transmit, Receive, Outputs, next, byCall, otherwise, atRead, atWrite, atPins, atOutputs}
 use Rattle.ins2651_rules.specs.Rows.{refusal}
 use Rattle.ins2651_rules.proofs.Done.{does-read, does-write, does-pins}
-use Rattle.ins2651_rules.proofs.Refused.{read-address, refused-unchanged}
-use Rattle.ins2651_rules.proofs.Leaves.{withSyns}
-use Rattle.ins2651_rules.proofs.InRange.{next-in}
+use Rattle.ins2651_rules.proofs.Refused.{read-address}
+use Rattle.ins2651_rules.proofs.Leaves.{SameErrors, withSyns}
 use Rattle.ins2651_rules.proofs.StatusBits.{status-bits}
-use Rattle.joined_rules.specs.Bench.{statusBit, mayWrite, unread, character}
-use Rattle.joined_rules.specs.Demand3.{Settings, harmless, allowedCall, NoFlag}
-use Rattle.joined_rules.proofs.Ready.{Ready, senderAfter, receiverAfter, Kept}
+use Rattle.delivery.specs.OneWay.{Passes}
+use Rattle.delivery.specs.Ends.{senderAfter, receiverAfter}
+use Rattle.joined_rules.specs.Bench.{statusBit, mayWrite, unread, flagged, character, writing, reading}
 
 -- == what the bench sees ==
 
 bit-is : (d : Device) (w : ℕ) → inRange d ≡ true → statusBit w d ≡ has w (statusByte d)
 unfolding readRegister
 bit-is d w h = ap (λ (o : Answer). has w (o .value)) (does-read d h 1 refl)
+
+-- bit 0 is 1 while transmit is enabled and THR empty
+pub may-write-is : (d : Device) → inRange d ≡ true → mayWrite d ≡ (transmitEnabled d && vacant d)
+may-write-is d h = bit-is d 1 h ∙ status-bits d .bit0
 
 -- bit 1 is 1 while RHR holds an unread character
 pub unread-is : (d : Device) → inRange d ≡ true → unread d ≡ on (d .receiver .unread)
@@ -50,81 +54,94 @@ pub character-is : (d : Device) → inRange d ≡ true → character d ≡ d .re
 unfolding readRegister
 character-is d h = ap (λ (o : Answer). o .value) (does-read d h 0 refl)
 
--- THR is empty while bit 0 is 1
-pub vacant-is : (d : Device) → inRange d ≡ true → mayWrite d ≡ true → d .sender .full ≡ 0
-vacant-is d h m = eqb-true _ _ (both (transmitEnabled d) (vacant d) (sym (bit-is d 1 h ∙ status-bits d .bit0) ∙ m) .1)
+-- bits 5, 4 and 3 are the error flags
+pub flagged-is : (d : Device) → inRange d ≡ true → flagged d ≡ (on (d .flags .framing) || on (d .flags .overrun) || on (d .flags .parity))
+flagged-is d h =
+    ap₂ (λ (x y : Bool). x || y)
+    (ap₂ (λ (x y : Bool). x || y) (bit-is d 32 h ∙ status-bits d .bit5) (bit-is d 16 h ∙ status-bits d .bit4)) (bit-is d 8 h ∙ status-bits d .bit3)
 
--- a ready device shows no flag
-pub no-flag : (s : Settings) (d : Device) → Ready s d → NoFlag d
-no-flag s d r =
-    record {
-      framing = bit-is d 32 (r .within) ∙ status-bits d .bit5 ∙ ap on (r .framing);
-      overrun = bit-is d 16 (r .within) ∙ status-bits d .bit4 ∙ ap on (r .overrun);
-      parity = bit-is d 8 (r .within) ∙ status-bits d .bit3 ∙ ap on (r .parity);
-    }
+-- == a call that is refused ==
 
--- == an allowed call ==
+-- it is no write of address 0, and no read of it
+pub refused-passes : (d : Device) (c : Call) → (refusal d c ≡ 0 → ⊥) → (writing c ≡ Passes) × (reading c ≡ Passes)
+unfolding writeRefusal
+refused-passes d Reset n = (refl, refl)
+refused-passes d (Read zero) n = absurd (n refl)
+refused-passes d (Read (suc i)) n = (refl, rw (ne-eqb (suc i) 0 (λ e. omega arith)))
+refused-passes d (Write zero v) n = absurd (n refl)
+refused-passes d (Write (suc i) v) n = (rw (ne-eqb (suc i) 0 (λ e. omega arith)), refl)
+refused-passes d (SetPins dsr dcd cts) n = (refl, refl)
+refused-passes d Transmit n = (refl, refl)
+refused-passes d (Receive x) n = (refl, refl)
+refused-passes d Outputs n = (refl, refl)
 
-module _ (s : Settings) (d : Device) (r : Ready s d) where
-  low : (d .pins .dcd ≡ 0) × (d .pins .cts ≡ 0)
-  low = (r .dcd, r .cts)
+-- == a call that changes little ==
 
-  -- a call k that changes SYN bytes, pointers, pins, halves and marks alone, and leaves DCD and CTS low
-  kept : (k : Call) {a b c m n x y : ℕ} {p : Pins} {h : SenderHalf} {g : ReceiverHalf}
-      → next d k ≡ withParts d (withSyns (d .registers) a b c m n) p h g (withEmpty (withChange (d .flags) y) x)
-      → (p .dcd ≡ 0) × (p .cts ≡ 0) → h ≡ senderAfter k (d .sender) → g ≡ receiverAfter k (d .receiver) → Kept s d k
-  kept k q l u v =
+abbrev pub light : Call → Bool
+light c = byCall (atRead (λ address. true) (atWrite (λ address v. ltb address 2) (atPins (λ dsr dcd cts. true) (atOutputs true (otherwise false))))) c
+
+abbrev pub pinsAfter : Call → Pins → Pins
+pinsAfter c p = byCall (atPins pinLevels (otherwise p)) c
+
+-- modes, command and error flags stay; a half changes at address 0 alone
+pub record Light (d : Device) (c : Call) : Type 0 where
+  pub mode1 : next d c .registers .mode1 ≡ d .registers .mode1
+  pub mode2 : next d c .registers .mode2 ≡ d .registers .mode2
+  pub accepted : next d c .registers .accepted ≡ d .registers .accepted
+  pub command : next d c .registers .command ≡ d .registers .command
+  pub pins : next d c .pins ≡ pinsAfter c (d .pins)
+  pub sender : (f : Format) → next d c .sender ≡ senderAfter f (writing c) (d .sender)
+  pub receiver : (g : Format) (x : Bool) → next d c .receiver ≡ receiverAfter g x (reading c) (d .receiver)
+  pub errors : SameErrors (d .flags) (next d c .flags)
+
+module _ (d : Device) (h : inRange d ≡ true) where
+  -- SYN bytes, pointers, pins, halves and marks
+  lightly : (k : Call) {a b c m n x y : ℕ} {p : Pins} {s : SenderHalf} {r : ReceiverHalf}
+      → next d k ≡ withParts d (withSyns (d .registers) a b c m n) p s r (withEmpty (withChange (d .flags) y) x)
+      → p ≡ pinsAfter k (d .pins) → ((f : Format) → s ≡ senderAfter f (writing k) (d .sender))
+      → ((g : Format) (x : Bool) → r ≡ receiverAfter g x (reading k) (d .receiver)) → Light d k
+  lightly k q p s r =
       record {
-        ready =
-            subst (Ready s) (sym q)
-            (record { within = ap inRange (sym q) ∙ next-in d k (r .within); mode1 = r .mode1; mode2 = r .mode2; accepted = r .accepted; command = r .command; dcd = l .0; cts = l .1; framing = r .framing; overrun = r .overrun; parity = r .parity });
-        sender = ap (λ (e : Device). e .sender) q ∙ u;
-        receiver = ap (λ (e : Device). e .receiver) q ∙ v;
+        mode1 = ap (λ (e : Device). e .registers .mode1) q;
+        mode2 = ap (λ (e : Device). e .registers .mode2) q;
+        accepted = ap (λ (e : Device). e .registers .accepted) q;
+        command = ap (λ (e : Device). e .registers .command) q;
+        pins = ap (λ (e : Device). e .pins) q ∙ p;
+        sender = λ f. ap (λ (e : Device). e .sender) q ∙ s f;
+        receiver = λ g x. ap (λ (e : Device). e .receiver) q ∙ r g x;
+        errors = record {
+          framing = ap (λ (e : Device). e .flags .framing) q;
+          overrun = ap (λ (e : Device). e .flags .overrun) q;
+          parity = ap (λ (e : Device). e .flags .parity) q;
+        };
       }
 
   reads : (address : ℕ) → refusal d (Read address) ≡ 0 → next d (Read address) ≡ readRegister d address .device
-  reads address n = ap (λ (o : Answer). o .device) (does-read d (r .within) address n)
+  reads address n = ap (λ (o : Answer). o .device) (does-read d h address n)
 
-  -- an allowed call that is not harmless is refused
-  refused : (k : Call) → harmless d k ≡ false → allowedCall d k ≡ true → next d k ≡ d
-  refused k h a = refused-unchanged d k (λ n. true≢false (sym a ∙ rw (eq-eqb _ _ n, h))) .device
+  by-call : (c : Call) → refusal d c ≡ 0 → light c ≡ true → Light d c
+  unfolding readRegister writeRefusal writeRegister pinned
+  by-call Reset n l = absurd (true≢false (sym l))
+  by-call (Read zero) n l = lightly (Read 0) (reads 0 refl) refl (λ f. refl) (λ g x. refl)
+  by-call (Read (suc zero)) n l = lightly (Read 1) (reads 1 refl) refl (λ f. refl) (λ g x. refl)
+  by-call (Read (suc (suc zero))) n l =
+      let P : Answer → Type 0 = λ o. next d (Read 2) ≡ o .device → Light d (Read 2) in
+      either P (eqb (d .registers .modes) 0)
+      (λ q. lightly (Read 2) q refl (λ f. refl) (λ g x. refl)) (λ q. lightly (Read 2) q refl (λ f. refl) (λ g x. refl)) (reads 2 refl)
+  by-call (Read (suc (suc (suc zero)))) n l = lightly (Read 3) (reads 3 refl) refl (λ f. refl) (λ g x. refl)
+  by-call (Read (suc (suc (suc (suc i))))) n l = absurd (omega (arith, read-address (suc (suc (suc (suc i)))) n))
+  by-call (Write zero v) n l = lightly (Write 0 v) (does-write d h 0 v refl) refl (λ f. refl) (λ g x. refl)
+  by-call (Write (suc zero) v) n l =
+      let P : Registers → Type 0 = λ q. next d (Write 1 v) ≡ withRegisters d q → Light d (Write 1 v) in
+      either P (eqb (d .registers .syns) 0) (λ q. lightly (Write 1 v) q refl (λ f. refl) (λ g x. refl))
+      (either P (eqb (d .registers .syns) 1) (λ q. lightly (Write 1 v) q refl (λ f. refl) (λ g x. refl)) (λ q. lightly (Write 1 v) q refl (λ f. refl) (λ g x. refl)))
+      (does-write d h 1 v refl)
+  by-call (Write (suc (suc i)) v) n l = absurd (omega (arith, ltb-true (suc (suc i)) 2 l))
+  by-call (SetPins dsr dcd cts) n l = lightly (SetPins dsr dcd cts) (does-pins d h dsr dcd cts n) refl (λ f. refl) (λ g x. refl)
+  by-call Transmit n l = absurd (true≢false (sym l))
+  by-call (Receive x) n l = absurd (true≢false (sym l))
+  by-call Outputs n l = lightly Outputs refl refl (λ f. refl) (λ g x. refl)
 
-  pins-keep : (dsr dcd cts : ℕ) (b : Bool) → harmless d (SetPins dsr dcd cts) ≡ b → allowedCall d (SetPins dsr dcd cts) ≡ true → Kept s d (SetPins dsr dcd cts)
-  unfolding pinned
-  pins-keep dsr dcd cts true h a =
-      let y = both (eqb dsr 0 && eqb dcd 0) (eqb cts 0) h in
-      let x = both (eqb dsr 0) (eqb dcd 0) (y .0) in
-      let l : (dcd ≡ 0) × (cts ≡ 0) = (eqb-true dcd 0 (x .1), eqb-true cts 0 (y .1)) in
-      kept (SetPins dsr dcd cts) (does-pins d (r .within) dsr dcd cts (rw (eqb-true dsr 0 (x .0), l .0, l .1))) l refl refl
-  pins-keep dsr dcd cts false h a = kept (SetPins dsr dcd cts) (refused (SetPins dsr dcd cts) h a) low refl refl
-
-  keeps : (k : Call) → allowedCall d k ≡ true → Kept s d k
-  unfolding readRegister writeRefusal writeRegister
-  keeps Reset a = kept Reset (refused Reset refl a) low refl refl
-  keeps (Read zero) a = kept (Read 0) (reads 0 refl) low refl refl
-  keeps (Read (suc zero)) a = kept (Read 1) (reads 1 refl) low refl refl
-  keeps (Read (suc (suc zero))) a =
-      let P : Answer → Type 0 = λ o. next d (Read 2) ≡ o .device → Kept s d (Read 2) in
-      either P (eqb (d .registers .modes) 0) (λ q. kept (Read 2) q low refl refl) (λ q. kept (Read 2) q low refl refl) (reads 2 refl)
-  keeps (Read (suc (suc (suc zero)))) a = kept (Read 3) (reads 3 refl) low refl refl
-  keeps (Read (suc (suc (suc (suc k))))) a =
-      let j : ℕ = suc (suc (suc (suc k))) in
-      kept (Read j) (refused-unchanged d (Read j) (λ n. omega (arith, read-address j n)) .device) low refl (rw (ne-eqb j 0 (λ e. omega arith)))
-  keeps (Write zero v) a = kept (Write 0 v) (does-write d (r .within) 0 v refl) low refl refl
-  keeps (Write (suc zero) v) a =
-      let P : Registers → Type 0 = λ q. next d (Write 1 v) ≡ withRegisters d q → Kept s d (Write 1 v) in
-      either P (eqb (d .registers .syns) 0) (λ q. kept (Write 1 v) q low refl refl)
-      (either P (eqb (d .registers .syns) 1) (λ q. kept (Write 1 v) q low refl refl) (λ q. kept (Write 1 v) q low refl refl))
-      (does-write d (r .within) 1 v refl)
-  keeps (Write (suc (suc k)) v) a =
-      let j : ℕ = suc (suc k) in
-      let z : eqb j 0 ≡ false = ne-eqb j 0 (λ e. omega arith) in
-      kept (Write j v) (refused (Write j v) (rw (z, ne-eqb j 1 (λ e. omega arith))) a) low (rw z) refl
-  keeps (SetPins dsr dcd cts) a = pins-keep dsr dcd cts (harmless d (SetPins dsr dcd cts)) refl a
-  keeps Transmit a = kept Transmit (refused Transmit refl a) low refl refl
-  keeps (Receive x) a = kept (Receive x) (refused (Receive x) refl a) low refl refl
-  keeps Outputs a = kept Outputs refl low refl refl
-
--- an allowed call leaves a ready device ready, and touches a half only at address 0
-pub call-keeps : (s : Settings) (d : Device) (c : Call) → Ready s d → allowedCall d c ≡ true → Kept s d c
-call-keeps s d c r a = keeps s d r c a
+-- such a call, where it is done
+pub light-leaves : (d : Device) (c : Call) → inRange d ≡ true → refusal d c ≡ 0 → light c ≡ true → Light d c
+light-leaves d c h n l = by-call d h c n l

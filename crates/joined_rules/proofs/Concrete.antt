@@ -2,10 +2,10 @@
 -- Assumes nothing.
 use Prim.Native.Nat.{ℕ}
 use mathlib.Core.Path.{_≡_, refl, sym}
-use mathlib.Core.Bool.{true}
+use mathlib.Core.Bool.{true, false}
 use mathlib.Core.List.{List, [], _∷_, _++_}
 use lib.ListN.{replicate}
-use Rattle.line_rules.specs.Sending.{part, oddOnes, parityBit}
+use Rattle.line_rules.specs.Sending.{part, oddOnes, parityBit, frameLength}
 use Rattle.line_rules.specs.Range as line-range
 use Rattle.line_rules.specs.Receiving.{sample}
 use Rattle.link_rules.specs.Transmitting as link-transmitting
@@ -20,11 +20,16 @@ use Rattle.ins2651_rules.specs.RegisterReads.{readRegister, read}
 use Rattle.ins2651_rules.specs.RegisterWrites.{writeRegister, write}
 use Rattle.ins2651_rules.specs.Pinning.{pinned, setPins}
 use Rattle.ins2651_rules.specs.Ticks.{transmitTick, transmit, receiveTick, receive}
-use Rattle.ins2651_rules.specs.Runs.{Read, Write, said}
+use Rattle.ins2651_rules.specs.Runs.{Reset, Read, Write, SetPins, said}
+use Rattle.delivery.specs.OneWay.{begun}
+use Rattle.delivery.specs.OneWay as one-way
+use Rattle.delivery.specs.Promise.{Promised}
+use Rattle.joined_rules.specs.declared.Pair.{Pair}
 use Rattle.joined_rules.specs.Joining.{tick}
-use Rattle.joined_rules.specs.Bench.{statusBit, A, B, Step, Tick, At, Bench, step, runs}
-use Rattle.joined_rules.specs.Demand3.{Settings, Proper, Agree, fresh, allAllowed, Right}
-use Rattle.joined_rules.proofs.Promised.{demand-3}
+use Rattle.joined_rules.specs.Bench.{statusBit, A, B, Step, Tick, At, wayFrom, allMoved, Bench, step, runs}
+use Rattle.joined_rules.specs.Demand3.{Settings, Proper, sends, Agree, FreshlySetUp, fresh, allAllowed, Right}
+use Rattle.joined_rules.proofs.Sequence.{sequences, sequence-sets-up}
+use Rattle.joined_rules.proofs.Promised.{one-way-right, demand-3}
 
 -- what the calls of a run answer: the bytes read
 abbrev told : Bench → List Step → List ℕ
@@ -36,16 +41,20 @@ told w (At B c ∷ ss) = said (w .pair .b) c .values ++ told (step w (At B c)) s
 abbrev after : ℕ → List Step → List Step
 after n ss = replicate n Tick ++ ss
 
+abbrev just-reset : Pair
+just-reset = record { a = resetDevice; b = resetDevice }
+
+-- by document 01's sequence
 abbrev start : Settings → Settings → Bench
-start a b = fresh resetDevice resetDevice a b
+start a b = fresh just-reset (sequences a b)
 
 -- == document 01's session ==
 
 -- 206 is 8 bits, no parity, two stops; 126 makes both clocks internal; 39 is bits 0, 1, 2 and 5
-abbrev worked : Settings
+abbrev pub worked : Settings
 worked = record { mode1 = 206; mode2 = 126; command = 39 }
 
-abbrev session : List Step
+abbrev pub session : List Step
 session = At A (Write 0 255) ∷ after 152 (At B (Read 1) ∷ Tick ∷ At B (Read 1) ∷ At B (Read 0) ∷ At B (Read 1) ∷ [])
 
 pub worked-proper : Proper worked
@@ -65,7 +74,26 @@ unfolding part oddOnes parityBit sample link-transmitting.transmit link-hearing.
 session-told = refl
 
 pub session-right : Right worked worked (runs (start worked worked) session)
-session-right = demand-3 worked worked worked-proper worked-proper worked-agrees resetDevice resetDevice session session-allowed
+session-right = demand-3 worked worked worked-proper worked-proper worked-agrees just-reset (sequences worked worked) (sequence-sets-up worked worked just-reset worked-proper worked-proper) session session-allowed
+
+-- == another set-up ==
+
+-- the sides mixed in time, pins before modes, reads and a SYN byte between, three refused calls, a first command that is replaced by a second,
+-- from any two devices
+abbrev mixed : List Step
+mixed =
+    At B Reset ∷ At A (SetPins 1 0 1) ∷ At A Reset ∷ At A (SetPins 0 0 0) ∷ At B (Write 3 33) ∷ At A (Write 1 22) ∷ At B (Write 2 206)
+    ∷ At A (Read 1) ∷ At A (Write 2 204) ∷ At A (Write 2 206) ∷ At B (Write 2 126) ∷ At B (SetPins 0 2 0) ∷ At A (Write 2 126)
+    ∷ At B (SetPins 0 0 0) ∷ At A (Read 0) ∷ At A (Write 3 103) ∷ At B (Write 3 55) ∷ At A (Write 3 39) ∷ At B (Read 2) ∷ []
+
+pub mixed-sets-up : (p : Pair) → FreshlySetUp worked (record { mode1 = 206; mode2 = 126; command = 55 }) p mixed
+unfolding part oddOnes parityBit sample link-transmitting.transmit link-hearing.receive line-range.inRange senderInRange receiverInRange formatOf statusByte inRange settled writeRefusal readRegister read writeRegister write pinned setPins transmitTick transmit receiveTick receive tick
+mixed-sets-up p =
+    record {
+      from-reset = record { calls = refl; a-reset = refl; b-reset = refl };
+      a-holds = record { mode1 = refl; mode2 = refl; command = refl; dsr = refl; dcd = refl; cts = refl };
+      b-holds = record { mode1 = refl; mode2 = refl; command = refl; dsr = refl; dcd = refl; cts = refl };
+    }
 
 -- == a sender kept full, with parity and unequal stops, and the other way in use as well ==
 
@@ -119,7 +147,7 @@ unfolding part oddOnes parityBit sample link-transmitting.transmit link-hearing.
 full-line-back = refl
 
 pub full-line-right : Right one-stop two-stops (runs (start one-stop two-stops) full-line)
-full-line-right = demand-3 one-stop two-stops one-stop-proper two-stops-proper stops-agree resetDevice resetDevice full-line full-line-allowed
+full-line-right = demand-3 one-stop two-stops one-stop-proper two-stops-proper stops-agree just-reset (sequences one-stop two-stops) (sequence-sets-up one-stop two-stops just-reset one-stop-proper two-stops-proper) full-line full-line-allowed
 
 -- == what the premises are for ==
 
@@ -139,3 +167,34 @@ late-read-overruns = refl
 pub unasked-write-loses : runs (start one-stop two-stops) (At A (Write 0 193) ∷ At A (Write 0 194) ∷ after 40 []) .there .came ≡ record { at = 11; value = 194 } ∷ []
 unfolding part oddOnes parityBit sample link-transmitting.transmit link-hearing.receive line-range.inRange senderInRange receiverInRange formatOf statusByte inRange settled writeRefusal readRegister read writeRegister write pinned setPins transmitTick transmit receiveTick receive tick
 unasked-write-loses = refl
+
+-- == one way, whatever happens on the other ==
+
+-- b writes two characters that a never reads, and a third unasked; a's receive is turned off. On the way from a all is read in time
+abbrev one-sided : List Step
+one-sided =
+    At A (Write 0 193) ∷ At B (Write 0 90) ∷ Tick ∷ At B (Write 0 91) ∷ At A (Write 0 194) ∷ after 20 (At B (Read 0)
+    ∷ At B (Write 0 92) ∷ At B (Write 0 93) ∷ after 2 (At A (Read 1) ∷ At A (Write 3 1) ∷ after 9 (At B (Read 0) ∷ [])))
+
+pub one-sided-is-not-both : allAllowed one-stop two-stops (start one-stop two-stops) one-sided ≡ false
+unfolding part oddOnes parityBit sample link-transmitting.transmit link-hearing.receive line-range.inRange senderInRange receiverInRange formatOf statusByte inRange settled writeRefusal readRegister read writeRegister write pinned setPins transmitTick transmit receiveTick receive tick
+one-sided-is-not-both = refl
+
+pub one-sided-allowed : one-way.allAllowed (wayFrom A) (frameLength (sends one-stop)) (begun (start one-stop two-stops .pair)) one-sided ≡ true
+unfolding part oddOnes parityBit sample link-transmitting.transmit link-hearing.receive line-range.inRange senderInRange receiverInRange formatOf statusByte inRange settled writeRefusal readRegister read writeRegister write pinned setPins transmitTick transmit receiveTick receive tick
+one-sided-allowed = refl
+
+-- a's status has overrun, bit 4; b gets its two characters
+pub one-sided-told : told (start one-stop two-stops) one-sided ≡ 193 ∷ 215 ∷ 194 ∷ []
+unfolding part oddOnes parityBit sample link-transmitting.transmit link-hearing.receive line-range.inRange senderInRange receiverInRange formatOf statusByte inRange settled writeRefusal readRegister read writeRegister write pinned setPins transmitTick transmit receiveTick receive tick
+one-sided-told = refl
+
+pub one-sided-there : one-way.runs (wayFrom A) (begun (start one-stop two-stops .pair)) one-sided .log .read ≡ 194 ∷ 193 ∷ []
+unfolding part oddOnes parityBit sample link-transmitting.transmit link-hearing.receive line-range.inRange senderInRange receiverInRange formatOf statusByte inRange settled writeRefusal readRegister read writeRegister write pinned setPins transmitTick transmit receiveTick receive tick
+one-sided-there = refl
+
+pub one-sided-right : Promised (wayFrom A) (sends one-stop) (one-way.runs (wayFrom A) (begun (start one-stop two-stops .pair)) one-sided)
+unfolding part oddOnes parityBit sample link-transmitting.transmit link-hearing.receive line-range.inRange senderInRange receiverInRange formatOf statusByte inRange settled writeRefusal readRegister read writeRegister write pinned setPins transmitTick transmit receiveTick receive tick
+one-sided-right =
+    one-way-right A just-reset (sequences one-stop two-stops) (record { calls = refl; a-reset = refl; b-reset = refl })
+    (record { starts = refl; no-break = refl; listens = refl; alike = stops-agree .there }) one-sided one-sided-allowed

@@ -1,8 +1,11 @@
 pub mod Runs
-pub mod Delivery
-pub mod Ready
 pub mod Calls
-pub mod Sides
+pub mod Sending
+pub mod Hearing
+pub mod SetUps
+pub mod Ways
 pub mod Promised
+pub mod Order
+pub mod Sequence
 pub mod Concrete
 pub mod Skips

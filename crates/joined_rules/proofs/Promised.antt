@@ -1,218 +1,278 @@
--- Demand 3 holds: after every list of allowed steps from a fresh set-up, both ways at once.
--- The devices follow their halves, so that delivery between halves is delivery between devices.
+-- Demand 3 holds, for one way by itself and for both at once: after every list of allowed steps from a fresh set-up.
+-- The chip is an end of either kind, so that delivery from end to end is delivery between devices.
 -- Assumes nothing.
-use Prim.Native.Nat.{ℕ, zero, suc, _+_, _<_}
+use Prim.Native.Nat.{ℕ, zero, suc, _<_}
 use native.Mathlib.Omega.{arith}
 use mathlib.Core.Path.{_≡_, refl, ap, ap₂, sym, subst, _∙_}
 use mathlib.Core.Bool.{Bool, true, false, cond, not, _&&_, _||_, true≢false}
 use mathlib.Core.List.{List, [], _∷_, _++_}
 use lib.ListN.{replicate}
 use lib.Dec.{ltb, eqb}
-use borrow.Author.Tests.{ltb-true, ne-eqb}
+use borrow.Author.Tests.{ne-eqb}
 use Rattle.line_rules.specs.declared.Format.{Format}
 use Rattle.line_rules.specs.Sending.{on, frameLength}
-use Rattle.line_rules.specs.Receiving.{sample}
+use Rattle.line_rules.specs.Receiving.{searching, sample}
+use Rattle.line_rules.specs.Sees.{Alike}
 use Rattle.line_rules.proofs.Ranges.{in-range-bounds}
 use Rattle.line_rules.proofs.Table.{both}
+use Rattle.line_rules.proofs.Choice.{either, all, neither}
 use Rattle.link_rules.specs.declared.SenderHalf.{SenderHalf}
 use Rattle.link_rules.specs.declared.ReceiverHalf.{ReceiverHalf}
-use Rattle.link_rules.specs.Parts.{idleSender, idleReceiver, loaded, emptied}
+use Rattle.link_rules.specs.Parts.{idleSender, idleReceiver}
 use Rattle.link_rules.specs.Transmitting as link-transmitting
 use Rattle.link_rules.specs.Hearing as link-hearing
-use Rattle.line_rules.proofs.Choice.{all}
+use Rattle.link_rules.proofs.Halves.{Tuned}
 use Rattle.ins2651_rules.specs.declared.Device.{Device}
-use Rattle.ins2651_rules.specs.Modes.{has}
+use Rattle.ins2651_rules.specs.Modes.{has, sendFormat, receiveFormat, receiveEnable}
+use Rattle.ins2651_rules.specs.Conditions.{transmitEnabled, clearToSend, modeSet, carrier}
 use Rattle.ins2651_rules.specs.Ranges.{inRange}
 use Rattle.ins2651_rules.specs.Refusals.{writeRefusal}
-use Rattle.ins2651_rules.specs.Ticks.{transmitTick, receiveTick}
-use Rattle.ins2651_rules.specs.Runs.{Call, Reset, Read, Write, SetPins, Transmit, Receive, Outputs, next, after}
+use Rattle.ins2651_rules.specs.Runs.{Call, Reset, Read, Write, SetPins, Transmit, Receive, Outputs}
+use Rattle.ins2651_rules.specs.Rows.{refusal}
 use Rattle.ins2651_rules.proofs.Formats.{format-in}
+use Rattle.delivery.specs.Log.{Way}
+use Rattle.delivery.specs.OneWay.{Deed, Ticks, Writes, Reads, Passes, later, inTime, Logged, begun, permits}
+use Rattle.delivery.specs.OneWay as one-way
+use Rattle.delivery.specs.Promise.{Promised}
+use Rattle.delivery.specs.Ends.{senderAfter, receiverAfter, faults, hears, Begins}
+use Rattle.delivery.proofs.Delivery.{Fit, Idles}
+use Rattle.delivery.proofs.Carried.{way-delivers, way-idles}
 use Rattle.joined_rules.specs.declared.Pair.{Pair}
-use Rattle.joined_rules.specs.declared.Joined.{Joined}
-use Rattle.joined_rules.specs.Joining.{joinedTick, tick, ticks}
-use Rattle.joined_rules.specs.Bench.{unread, character, Way, nothingYet, logWrite, logArrival, logRead, wrote, fetched, heard, A, B, Step, Tick, At, Bench, ticked, step, runs}
-use Rattle.joined_rules.specs.Demand3.{Settings, setUp, Proper, sends, receives, Agree, fresh, allowedCall, latest, inTime, allowed, allAllowed, Right, Fetched, Seen}
-use Rattle.joined_rules.proofs.Runs.{settled-pair, tick-is}
-use Rattle.joined_rules.proofs.Ready.{Ready, senderAfter, receiverAfter}
-use Rattle.joined_rules.proofs.Calls.{unread-is, character-is, vacant-is, no-flag, call-keeps}
-use Rattle.joined_rules.proofs.Sides.{setUpDevice, set-up-leaves, set-up-ready, level-is, tick-keeps}
-use Rattle.joined_rules.proofs.Delivery.{noticed, Fit, Flow, Flows, tick-flows, write-flows, read-flows, flow-delivers, flow-fetched, Idles, flow-idles, flow-begins, first-writes}
+use Rattle.joined_rules.specs.Joining.{tick, ticks}
+use Rattle.joined_rules.specs.Bench.{mayWrite, unread, flagged, statusBit, Side, A, B, other, deviceAt, Step, Tick, At, moved, allMoved, writing, reading, leavesSending, leavesReceiving, refusedOr, deedFrom, steadyFrom, wayFrom, Bench, clock, step, runs}
+use Rattle.joined_rules.specs.Demand3.{Settings, settingsAt, Proper, sends, receives, Agree, FromReset, Holds, FreshlySetUp, fresh, harmless, allowedCall, allowed, allAllowed, NoFlag, Right, Seen, Open}
+use Rattle.joined_rules.proofs.Sending.{Sending, SendsOn, level-is}
+use Rattle.joined_rules.proofs.Hearing.{Hearing}
+use Rattle.joined_rules.proofs.SetUps.{Untouched, set-up-untouched, starts, no-break, listens, sends-so, receives-so}
+use Rattle.joined_rules.proofs.Ways.{side-sends, side-receives}
 
--- where p makes q so
-or-else : (p q : Bool) → (not p || q) ≡ true → p ≡ true → q ≡ true
-or-else true q h e = h
-or-else false q h e = absurd (true≢false (sym e))
+-- == one way ==
 
-not-zero : (i : ℕ) → eqb (suc i) 0 ≡ false
-not-zero i = ne-eqb (suc i) 0 (λ e. omega arith)
+-- after any set-up that leaves the way open
+module _ (s : Side) (p : Pair) (us : List Step) (up : FromReset us) (opened : Open s (allMoved p us)) where
+  abbrev set : Pair
+  set = allMoved p us
 
--- == one way of the line, by devices ==
+  abbrev from : Device
+  from = deviceAt s set
 
--- what the bench notices of a tick is what the receiving half does
-heard-is : (now : ℕ) (d e : Device) (w : Way) → inRange d ≡ true → inRange e ≡ true → heard now d e w ≡ noticed now (d .receiver) (e .receiver) w
-heard-is now d e w h k =
-    ap₂ (λ (b : Bool) (v : ℕ). cond b (logArrival now v w) w)
-    (ap₂ (λ (x y : Bool). not x && y) (unread-is d h) (unread-is e k)) (character-is e k)
+  abbrev to : Device
+  to = deviceAt (other s) set
 
--- the premise of a tick: what the device d has got is read in time
-timely : (L now : ℕ) (d : Device) (w : Way) → inRange d ≡ true → inTime L now d w ≡ true → on (d .receiver .unread) ≡ true → suc now < latest (w .came) + L
-timely L now d w h t u = ltb-true _ _ (or-else (unread d) (ltb (suc now) (latest (w .came) + L)) t (unread-is d h ∙ u))
+  abbrev f : Format
+  f = sendFormat (from .registers)
 
-module _ {f g : Format} (fit : Fit f g) where
-  abbrev Goes : SenderHalf → ReceiverHalf → ℕ → Way → Type 0
-  Goes s r now w = Flow fit s r now w
+  abbrev g : Format
+  g = receiveFormat (to .registers)
 
-  -- an allowed call at the end that writes ..
-  written-half : (d : Device) (c : Call) (r : ReceiverHalf) (now : ℕ) (w : Way) → inRange d ≡ true → allowedCall d c ≡ true
-      → Goes (d .sender) r now w → Goes (senderAfter c (d .sender)) r now (wrote now c w)
-  unfolding writeRefusal
-  written-half d Reset r now w h a k = k
-  written-half d (Read address) r now w h a k = k
-  written-half d (Write zero v) r now w h a k = let p = both _ _ a in write-flows fit v k (vacant-is d h (p .0)) (ltb-true _ _ (p .1))
-  written-half d (Write (suc i) v) r now w h a k =
-      subst (λ (b : Bool). Goes (cond b (loaded (d .sender) v) (d .sender)) r now (cond b (logWrite now v w) w)) (sym (not-zero i)) k
-  written-half d (SetPins dsr dcd cts) r now w h a k = k
-  written-half d Transmit r now w h a k = k
-  written-half d (Receive x) r now w h a k = k
-  written-half d Outputs r now w h a k = k
+  fit : Fit f g
+  fit = record { bounds = in-range-bounds f (format-in (from .registers .mode1) (has 32 (from .registers .mode2))); alike = opened .alike }
 
-  write-call : (s : Settings) (d : Device) (c : Call) (r : ReceiverHalf) (now : ℕ) (w : Way) → Ready s d → allowedCall d c ≡ true
-      → Goes (d .sender) r now w → Goes (next d c .sender) r now (wrote now c w)
-  write-call s d c r now w h a k =
-      subst (λ (x : SenderHalf). Goes x r now (wrote now c w)) (sym (call-keeps s d c h a .sender)) (written-half d c r now w (h .within) a k)
+  untouched : (t : Side) → Untouched (deviceAt t set)
+  untouched A = set-up-untouched A p us (up .calls) (up .a-reset)
+  untouched B = set-up-untouched B p us (up .calls) (up .b-reset)
 
-  -- .. and at the end that reads
-  read-half : (d : Device) (c : Call) (s : SenderHalf) (now : ℕ) (w : Way) → inRange d ≡ true
-      → Goes s (d .receiver) now w → Goes s (receiverAfter c (d .receiver)) now (fetched d c w)
-  read-half d Reset s now w h k = k
-  read-half d (Read zero) s now w h k =
-      subst (Goes s (emptied (d .receiver)) now)
-      (sym (ap₂ (λ (b : Bool) (v : ℕ). cond b (logRead v w) w) (unread-is d h) (character-is d h)))
-      (read-flows fit k)
-  read-half d (Read (suc i)) s now w h k =
-      subst (λ (b : Bool). Goes s (cond b (emptied (d .receiver)) (d .receiver)) now (cond (b && unread d) (logRead (character d) w) w)) (sym (not-zero i)) k
-  read-half d (Write address v) s now w h k = k
-  read-half d (SetPins dsr dcd cts) s now w h k = k
-  read-half d Transmit s now w h k = k
-  read-half d (Receive x) s now w h k = k
-  read-half d Outputs s now w h k = k
+  sends-before : Sending f from
+  sends-before =
+      let t = both (transmitEnabled from && clearToSend from) (modeSet from) (opened .starts) in
+      let u = both (transmitEnabled from) (clearToSend from) (t .0) in
+      record { within = untouched s .within; enabled = u .0; clear = u .1; set = t .1; no-break = opened .no-break; format = refl }
 
-  read-call : (t : Settings) (d : Device) (c : Call) (s : SenderHalf) (now : ℕ) (w : Way) → Ready t d → allowedCall d c ≡ true
-      → Goes s (d .receiver) now w → Goes s (next d c .receiver) now (fetched d c w)
-  read-call t d c s now w h a k =
-      subst (λ (x : ReceiverHalf). Goes s x now (fetched d c w)) (sym (call-keeps t d c h a .receiver)) (read-half d c s now w (h .within) k)
+  hears-before : Hearing g to
+  hears-before =
+      let t = both (receiveEnable (to .registers .command) && carrier to) (modeSet to) (opened .listens) in
+      let u = both (receiveEnable (to .registers .command)) (carrier to) (t .0) in
+      record { within = untouched (other s) .within; enabled = u .0; carried = u .1; set = t .1; format = refl; no-errors = untouched (other s) .no-errors }
 
-  -- status bit 1 and what was read
-  way-fetched : (s : SenderHalf) (e : Device) (now : ℕ) (w : Way) → inRange e ≡ true → Goes s (e .receiver) now w → Fetched (unread e) (w .came) (w .read)
-  way-fetched s e now w h k = subst (λ (u : Bool). Fetched u (w .came) (w .read)) (sym (unread-is e h)) (flow-fetched fit k)
+  -- the one joined tick: the line is at mark, and the receiver begins to search
+  abbrev start : Pair
+  start = tick set .pair
 
-  -- a joined tick makes d' of the device d that sends, and e' of the device e that is read
-  tick-way : (d d′ e e′ : Device) (now : ℕ) (w : Way) → let o = link-transmitting.transmit (d .sender) true false f in
-      let q = link-hearing.receive (e .receiver) true g (o .level) in
-      d′ .sender ≡ o .half → e′ .receiver ≡ q .half → inRange e ≡ true → inRange e′ ≡ true
-      → Flows fit (o .half) (e .receiver) q now w
-      → Goes (d′ .sender) (e′ .receiver) (suc now) (heard (suc now) e e′ w)
-  tick-way d d′ e e′ now w p q h k z =
-      subst (Goes (d′ .sender) (e′ .receiver) (suc now)) (sym (heard-is (suc now) e e′ w h k))
-      (subst (λ (x : SenderHalf). Goes x (e′ .receiver) (suc now) (noticed (suc now) (e .receiver) (e′ .receiver) w)) (sym p)
-      (subst (λ (r : ReceiverHalf). Goes (link-transmitting.transmit (d .sender) true false f .half) r (suc now) (noticed (suc now) (e .receiver) r w)) (sym q) (z .flow)))
-
--- == both ways ==
-
-module _ (a b : Settings) (pa : Proper a) (pb : Proper b) (agree : Agree a b) where
-  -- the two ways
-  to : Fit (sends a) (receives b)
-  to = record { bounds = in-range-bounds (sends a) (format-in (a .mode1) (has 32 (a .mode2))); alike = agree .there }
-
-  fro : Fit (sends b) (receives a)
-  fro = record { bounds = in-range-bounds (sends b) (format-in (b .mode1) (has 32 (b .mode2))); alike = agree .back }
-
-  -- both sides are ready, and both ways flow
-  record Runs (w : Bench) : Type 0 where
-    a-ready : Ready a (w .pair .a)
-    b-ready : Ready b (w .pair .b)
-    there : Flow to (w .pair .a .sender) (w .pair .b .receiver) (w .now) (w .there)
-    back : Flow fro (w .pair .b .sender) (w .pair .a .receiver) (w .now) (w .back)
-
-  -- the pair after a tick, each side by its own ticks
-  exchanged : (d e : Device) → Ready a d → Ready b e → tick (record { a = d; b = e }) .pair
-      ≡ record {
-        a = receiveTick (transmitTick d .device) (link-transmitting.transmit (e .sender) true false (sends b) .level);
-        b = receiveTick (transmitTick e .device) (link-transmitting.transmit (d .sender) true false (sends a) .level);
-      }
-  unfolding joinedTick
-  exchanged d e r q =
-      let p : Pair = record { a = d; b = e } in
-      ap (λ (o : Joined). o .pair) (tick-is p ∙ ap joinedTick (settled-pair p (record { a = r .within; b = q .within })))
-      ∙ ap₂ (λ (x y : Bool). record { a = receiveTick (transmitTick d .device) x; b = receiveTick (transmitTick e .device) y }) (level-is b e pb q) (level-is a d pa r)
-
-  tick-runs : (w : Bench) → Runs w → allowed a b w Tick ≡ true → Runs (step w Tick)
-  tick-runs w h al =
-      let d : Device = w .pair .a in
-      let e : Device = w .pair .b in
-      let t = both _ _ al in
-      let there = tick-flows to (h .there) (timely (frameLength (sends a)) (w .now) e (w .there) (h .b-ready .within) (t .0)) in
-      let back = tick-flows fro (h .back) (timely (frameLength (sends b)) (w .now) d (w .back) (h .a-ready .within) (t .1)) in
-      let x : Bool = link-transmitting.transmit (e .sender) true false (sends b) .level in
-      let y : Bool = link-transmitting.transmit (d .sender) true false (sends a) .level in
-      let at-a = tick-keeps a d x pa (h .a-ready) (back .sound) (back .no-overrun) in
-      let at-b = tick-keeps b e y pb (h .b-ready) (there .sound) (there .no-overrun) in
-      subst (λ (p : Pair). Runs (ticked w p)) (sym (exchanged d e (h .a-ready) (h .b-ready)))
-      (record {
-        a-ready = at-a .ready;
-        b-ready = at-b .ready;
-        there = tick-way to d (receiveTick (transmitTick d .device) x) e (receiveTick (transmitTick e .device) y)
-            (w .now) (w .there) (at-a .sender) (at-b .receiver) (h .b-ready .within) (at-b .ready .within) there;
-        back = tick-way fro e (receiveTick (transmitTick e .device) y) d (receiveTick (transmitTick d .device) x)
-            (w .now) (w .back) (at-b .sender) (at-a .receiver) (h .a-ready .within) (at-a .ready .within) back;
-      })
-
-  step-runs : (w : Bench) (s : Step) → Runs w → allowed a b w s ≡ true → Runs (step w s)
-  step-runs w Tick h al = tick-runs w h al
-  step-runs w (At A c) h al =
-      record {
-        a-ready = call-keeps a (w .pair .a) c (h .a-ready) al .ready;
-        b-ready = h .b-ready;
-        there = write-call to a (w .pair .a) c (w .pair .b .receiver) (w .now) (w .there) (h .a-ready) al (h .there);
-        back = read-call fro a (w .pair .a) c (w .pair .b .sender) (w .now) (w .back) (h .a-ready) al (h .back);
-      }
-  step-runs w (At B c) h al =
-      record {
-        a-ready = h .a-ready;
-        b-ready = call-keeps b (w .pair .b) c (h .b-ready) al .ready;
-        there = read-call to b (w .pair .b) c (w .pair .a .sender) (w .now) (w .there) (h .b-ready) al (h .there);
-        back = write-call fro b (w .pair .b) c (w .pair .a .receiver) (w .now) (w .back) (h .b-ready) al (h .back);
-      }
-
-  all-run : (w : Bench) (ss : List Step) → Runs w → allAllowed a b w ss ≡ true → Runs (runs w ss)
-  all-run w [] h al = h
-  all-run w (s ∷ ss) h al = let p = both (allowed a b w s) (allAllowed a b (step w s) ss) al in all-run (step w s) ss (step-runs w s h (p .0)) (p .1)
-
-  -- the one joined tick of the set-up: both lines are at mark, and both receivers begin to search
-  fresh-runs : (d e : Device) → Runs (fresh d e a b)
-  unfolding link-transmitting.transmit link-hearing.receive sample
-  fresh-runs d e =
-      let da : Device = setUpDevice a in
-      let db : Device = setUpDevice b in
-      let at-a = tick-keeps a da true pa (set-up-ready a pa) refl refl in
-      let at-b = tick-keeps b db true pb (set-up-ready b pb) refl refl in
-      let is : tick (record { a = after d (setUp a); b = after e (setUp b) }) .pair
-      ≡ record { a = receiveTick (transmitTick da .device) true; b = receiveTick (transmitTick db .device) true } =
-      ap₂ (λ (x y : Device). tick (record { a = x; b = y }) .pair) (set-up-leaves a d pa) (set-up-leaves b e pb)
-      ∙ exchanged da db (set-up-ready a pa) (set-up-ready b pb) in
-      subst (λ (p : Pair). Runs (record { pair = p; now = 0; there = nothingYet; back = nothingYet })) (sym is)
-      (record {
-        a-ready = at-a .ready;
-        b-ready = at-b .ready;
-        there = begins to (receiveTick (transmitTick da .device) true) (receiveTick (transmitTick db .device) true) (at-a .sender) (at-b .receiver);
-        back = begins fro (receiveTick (transmitTick db .device) true) (receiveTick (transmitTick da .device) true) (at-b .sender) (at-a .receiver);
-      })
+  deed-is : deedFrom s Tick ≡ Ticks
+  deed-is = side s
     where
-      begins : {f g : Format} (fit : Fit f g) (x y : Device) → x .sender ≡ idleSender → y .receiver ≡ link-hearing.receive idleReceiver true g true .half
-          → Flow fit (x .sender) (y .receiver) 0 nothingYet
-      begins {g = g} fit x y s r =
-          subst (λ (h : ReceiverHalf). Flow fit (x .sender) h 0 nothingYet) (sym r)
-          (flow-begins fit (x .sender) (link-hearing.receive idleReceiver true g true .half) s refl refl refl)
+      side : (s : Side) → deedFrom s Tick ≡ Ticks
+      side A = refl
+      side B = refl
+
+  steady : steadyFrom s set Tick ≡ true
+  steady = side s
+    where
+      side : (s : Side) → steadyFrom s set Tick ≡ true
+      side A = refl
+      side B = refl
+
+  sender-is : deviceAt s start .sender ≡ idleSender
+  unfolding link-transmitting.transmit
+  sender-is =
+      side-sends s f .follows set Tick sends-before steady
+      ∙ ap (λ (k : Deed). senderAfter f k (from .sender)) deed-is
+      ∙ ap (λ (h : SenderHalf). link-transmitting.transmit h true false f .half) (untouched s .sender)
+
+  mark : wayFrom s .level set ≡ true
+  unfolding link-transmitting.transmit
+  mark = level-is from sends-before ∙ ap (λ (h : SenderHalf). link-transmitting.transmit h true false f .level) (untouched s .sender)
+
+  -- what the receiving half hears first
+  abbrev after-mark : ReceiverHalf
+  after-mark = hears g true idleReceiver .half
+
+  receiver-is : deviceAt (other s) start .receiver ≡ after-mark
+  receiver-is =
+      side-receives s g .follows set Tick hears-before steady
+      ∙ ap (λ (k : Deed). receiverAfter g (wayFrom s .level set) k (to .receiver)) deed-is
+      ∙ ap₂ (λ (x : Bool) (h : ReceiverHalf). hears g x h .half) mark (untouched (other s) .receiver)
+
+  faultless : faults g (wayFrom s .level set) (deedFrom s Tick) (to .receiver) ≡ false
+  unfolding link-hearing.receive sample
+  faultless =
+      ap (λ (k : Deed). faults g (wayFrom s .level set) k (to .receiver)) deed-is
+      ∙ ap₂ (λ (x : Bool) (h : ReceiverHalf). faults g x Ticks h) mark (untouched (other s) .receiver)
+
+  searching-now : (r : ReceiverHalf) → r ≡ after-mark → (r .state ≡ searching) × (r .unread ≡ 0)
+  unfolding link-hearing.receive sample
+  searching-now r e = subst (λ (k : ReceiverHalf). (k .state ≡ searching) × (k .unread ≡ 0)) (sym e) (refl, refl)
+
+  begins : Begins (λ p. Sending f (deviceAt s p)) (λ p. Hearing g (deviceAt (other s) p)) (λ p. deviceAt s p .sender) (λ p. deviceAt (other s) p .receiver) start
+  begins =
+      let r = searching-now (deviceAt (other s) start .receiver) receiver-is in
+      record {
+        sends = side-sends s f .ready set Tick sends-before steady;
+        hears = side-receives s g .ready set Tick hears-before steady faultless;
+        idle = sender-is;
+        searches = r .0;
+        read = r .1;
+      }
+
+  -- then any steps that are allowed on this way: demand 3 for it, whatever happens on the other
+  module _ (ss : List Step) (ok : one-way.allAllowed (wayFrom s) (frameLength f) (begun start) ss ≡ true) where
+    pub one-way-right : Promised (wayFrom s) f (one-way.runs (wayFrom s) (begun start) ss)
+    one-way-right = way-delivers fit (side-sends s f) (side-receives s g) start begins ss ok
+
+    -- 'idle', as the promise reads it from the log, is what it is in the device
+    pub one-way-idles : let end = one-way.runs (wayFrom s) (begun start) ss in Idles f (deviceAt s (end .bench) .sender) (end .now) (end .log .written)
+    one-way-idles = way-idles fit (side-sends s f) (side-receives s g) start begins ss ok
+
+-- == the bench as two ways ==
+
+-- what the bench keeps of one way
+abbrev pub seenFrom : Side → Bench → Logged Pair
+seenFrom A w = record { bench = w .pair; now = w .now; log = w .there }
+seenFrom B w = record { bench = w .pair; now = w .now; log = w .back }
+
+-- a call takes no time
+writing-now : (now : ℕ) (c : Call) → later now (writing c) ≡ now
+writing-now now Reset = refl
+writing-now now (Read address) = refl
+writing-now now (Write address v) = either (λ (k : Deed). later now k ≡ now) (eqb address 0) refl refl
+writing-now now (SetPins dsr dcd cts) = refl
+writing-now now Transmit = refl
+writing-now now (Receive x) = refl
+writing-now now Outputs = refl
+
+reading-now : (now : ℕ) (c : Call) → later now (reading c) ≡ now
+reading-now now Reset = refl
+reading-now now (Read address) = either (λ (k : Deed). later now k ≡ now) (eqb address 0) refl refl
+reading-now now (Write address v) = refl
+reading-now now (SetPins dsr dcd cts) = refl
+reading-now now Transmit = refl
+reading-now now (Receive x) = refl
+reading-now now Outputs = refl
+
+time-is : (s : Side) (now : ℕ) (x : Step) → later now (deedFrom s x) ≡ clock now x
+time-is A now Tick = refl
+time-is B now Tick = refl
+time-is A now (At A c) = writing-now now c
+time-is A now (At B c) = reading-now now c
+time-is B now (At A c) = reading-now now c
+time-is B now (At B c) = writing-now now c
+
+step-is : (s : Side) (w : Bench) (x : Step) → one-way.step (wayFrom s) (seenFrom s w) x ≡ seenFrom s (step w x)
+step-is A w x = ap (λ (k : ℕ). record { bench = step w x .pair; now = k; log = step w x .there }) (time-is A (w .now) x)
+step-is B w x = ap (λ (k : ℕ). record { bench = step w x .pair; now = k; log = step w x .back }) (time-is B (w .now) x)
+
+-- a run of the bench is a run of each way
+pub runs-is : (s : Side) (w : Bench) (ss : List Step) → one-way.runs (wayFrom s) (seenFrom s w) ss ≡ seenFrom s (runs w ss)
+runs-is s w [] = refl
+runs-is s w (x ∷ ss) = ap (λ (k : Logged Pair). one-way.runs (wayFrom s) k ss) (step-is s w x) ∙ runs-is s (step w x) ss
+
+-- == what is allowed both ways is allowed each way ==
+
+weaker : (p q : Call → Bool) (d : Device) (c : Call) → (p c ≡ true → q c ≡ true) → refusedOr p d c ≡ true → refusedOr q d c ≡ true
+weaker p q d c h a = go (eqb (refusal d c) 0) refl
+  where
+    go : (b : Bool) → eqb (refusal d c) 0 ≡ b → refusedOr q d c ≡ true
+    go true e = rw e (h (rw e at a))
+    go false e = rw e
+
+module _ (d : Device) where
+  harmless-sends : (c : Call) → harmless d c ≡ true → leavesSending c ≡ true
+  harmless-sends Reset h = h
+  harmless-sends (Read address) h = refl
+  harmless-sends (Write zero v) h = refl
+  harmless-sends (Write (suc i) v) h = rw (ne-eqb (suc i) 0 (λ e. omega arith)) (rw (rw (ne-eqb (suc i) 0 (λ e. omega arith)) at h))
+  harmless-sends (SetPins dsr dcd cts) h = both (eqb dsr 0 && eqb dcd 0) (eqb cts 0) h .1
+  harmless-sends Transmit h = h
+  harmless-sends (Receive x) h = refl
+  harmless-sends Outputs h = refl
+
+  harmless-receives : (c : Call) → harmless d c ≡ true → leavesReceiving c ≡ true
+  harmless-receives Reset h = h
+  harmless-receives (Read address) h = refl
+  harmless-receives (Write zero v) h = refl
+  harmless-receives (Write (suc i) v) h = rw (ne-eqb (suc i) 0 (λ e. omega arith)) (rw (rw (ne-eqb (suc i) 0 (λ e. omega arith)) at h))
+  harmless-receives (SetPins dsr dcd cts) h = both (eqb dsr 0) (eqb dcd 0) (both (eqb dsr 0 && eqb dcd 0) (eqb cts 0) h .0) .1
+  harmless-receives Transmit h = refl
+  harmless-receives (Receive x) h = h
+  harmless-receives Outputs h = refl
+
+-- a character is written only when it may be
+may-be-written : (L : ℕ) (w : Logged Pair) (s : Side) (c : Call) → allowedCall (deviceAt s (w .bench)) c ≡ true → permits (wayFrom s) L w (writing c) ≡ true
+unfolding writeRefusal
+may-be-written L w s Reset a = refl
+may-be-written L w s (Read address) a = refl
+may-be-written L w s (Write zero v) a = a
+may-be-written L w s (Write (suc i) v) a = rw (ne-eqb (suc i) 0 (λ e. omega arith))
+may-be-written L w s (SetPins dsr dcd cts) a = refl
+may-be-written L w s Transmit a = refl
+may-be-written L w s (Receive x) a = refl
+may-be-written L w s Outputs a = refl
+
+-- a call at the other side is always permitted
+may-be-read : (L : ℕ) (w : Logged Pair) (s : Side) (c : Call) → permits (wayFrom s) L w (reading c) ≡ true
+may-be-read L w s Reset = refl
+may-be-read L w s (Read address) = either (λ (k : Deed). permits (wayFrom s) L w k ≡ true) (eqb address 0) refl refl
+may-be-read L w s (Write address v) = refl
+may-be-read L w s (SetPins dsr dcd cts) = refl
+may-be-read L w s Transmit = refl
+may-be-read L w s (Receive x) = refl
+may-be-read L w s Outputs = refl
+
+module _ (a b : Settings) where
+  abbrev L : Side → ℕ
+  L s = frameLength (sends (settingsAt a b s))
+
+  abbrev in-time : Side → Bench → Bool
+  in-time s w = permits (wayFrom s) (L s) (seenFrom s w) Ticks
+
+  each-way : (s : Side) (w : Bench) (x : Step) → allowed a b w x ≡ true → one-way.allowed (wayFrom s) (L s) (seenFrom s w) x ≡ true
+  each-way A w Tick h = both (in-time A w) (in-time B w) h .0
+  each-way B w Tick h = both (in-time A w) (in-time B w) h .1
+  each-way A w (At A c) h =
+      all (weaker (harmless (w .pair .a)) leavesSending (w .pair .a) c (harmless-sends (w .pair .a) c) h) (may-be-written (L A) (seenFrom A w) A c h)
+  each-way A w (At B c) h =
+      all (weaker (harmless (w .pair .b)) leavesReceiving (w .pair .b) c (harmless-receives (w .pair .b) c) h) (may-be-read (L A) (seenFrom A w) A c)
+  each-way B w (At A c) h =
+      all (weaker (harmless (w .pair .a)) leavesReceiving (w .pair .a) c (harmless-receives (w .pair .a) c) h) (may-be-read (L B) (seenFrom B w) B c)
+  each-way B w (At B c) h =
+      all (weaker (harmless (w .pair .b)) leavesSending (w .pair .b) c (harmless-sends (w .pair .b) c) h) (may-be-written (L B) (seenFrom B w) B c h)
+
+  all-each-way : (s : Side) (w : Bench) (ss : List Step) → allAllowed a b w ss ≡ true → one-way.allAllowed (wayFrom s) (L s) (seenFrom s w) ss ≡ true
+  all-each-way s w [] h = refl
+  all-each-way s w (x ∷ ss) h =
+      let t = both (allowed a b w x) (allAllowed a b (step w x) ss) h in
+      all (each-way s w x (t .0))
+      (ap (λ (k : Logged Pair). one-way.allAllowed (wayFrom s) (L s) k ss) (step-is s w x) ∙ all-each-way s (step w x) ss (t .1))
 
 -- == steps ==
 
@@ -224,50 +284,117 @@ prefix-allowed a b w (s ∷ ss) ts h =
     all (p .0) (prefix-allowed a b (step w s) ss ts (p .1))
 
 -- n steps that are ticks are the run of n
-pub ticks-are-the-run : (n : ℕ) (w : Bench) → runs w (replicate n Tick) .pair ≡ ticks n (w .pair)
-ticks-are-the-run zero w = refl
-ticks-are-the-run (suc n) w = ticks-are-the-run n (step w Tick)
+pub ticks-are-the-run : (n : ℕ) (p : Pair) → allMoved p (replicate n Tick) ≡ ticks n p
+ticks-are-the-run zero p = refl
+ticks-are-the-run (suc n) p = ticks-are-the-run n (tick p .pair)
+
+-- the devices of the bench are those after the steps
+pub runs-move : (w : Bench) (ss : List Step) → runs w ss .pair ≡ allMoved (w .pair) ss
+runs-move w [] = refl
+runs-move w (s ∷ ss) = runs-move (step w s) ss
 
 -- == the theorems ==
 
--- two devices, whatever they were, set up in two ways that agree; then any steps that are allowed
-module _ (a b : Settings) (pa : Proper a) (pb : Proper b) (agree : Agree a b) (d e : Device) (ss : List Step)
-    (ok : allAllowed a b (fresh d e a b) ss ≡ true) where
+-- two devices, whatever they were, freshly set up in two ways that agree; then any steps that are allowed
+module _ (a b : Settings) (pa : Proper a) (pb : Proper b) (agree : Agree a b) (p : Pair) (us : List Step) (up : FreshlySetUp a b p us) (ss : List Step)
+    (ok : allAllowed a b (fresh p us) ss ≡ true) where
   abbrev end : Bench
-  end = runs (fresh d e a b) ss
+  end = runs (fresh p us) ss
 
-  ran : Runs a b pa pb agree end
-  ran = all-run a b pa pb agree (fresh d e a b) ss (fresh-runs a b pa pb agree d e) ok
+  abbrev after-set-up : Pair
+  after-set-up = allMoved p us
+
+  proper : (s : Side) → Proper (settingsAt a b s)
+  proper A = pa
+  proper B = pb
+
+  holds : (s : Side) → Holds (settingsAt a b s) (deviceAt s after-set-up)
+  holds A = up .a-holds
+  holds B = up .b-holds
+
+  agreed : (s : Side) → Alike (sends (settingsAt a b s)) (receives (settingsAt a b (other s)))
+  agreed A = agree .there
+  agreed B = agree .back
+
+  in-range : (s : Side) → inRange (deviceAt s after-set-up) ≡ true
+  in-range A = set-up-untouched A p us (up .from-reset .calls) (up .from-reset .a-reset) .within
+  in-range B = set-up-untouched B p us (up .from-reset .calls) (up .from-reset .b-reset) .within
+
+  sends-is : (s : Side) → sendFormat (deviceAt s after-set-up .registers) ≡ sends (settingsAt a b s)
+  sends-is s = sends-so (settingsAt a b s) (deviceAt s after-set-up) (proper s) (in-range s) (holds s)
+
+  is-open : (s : Side) → Open s after-set-up
+  is-open s =
+      let d : Device = deviceAt s after-set-up in
+      let e : Device = deviceAt (other s) after-set-up in
+      record {
+        starts = starts (settingsAt a b s) d (proper s) (in-range s) (holds s);
+        no-break = no-break (settingsAt a b s) d (proper s) (in-range s) (holds s);
+        listens = listens (settingsAt a b (other s)) e (proper (other s)) (in-range (other s)) (holds (other s));
+        alike = subst (λ (f : Format). Alike f (receiveFormat (e .registers))) (sym (sends-is s))
+            (subst (Alike (sends (settingsAt a b s))) (sym (receives-so (settingsAt a b (other s)) e (proper (other s)) (in-range (other s)) (holds (other s)))) (agreed s));
+      }
+
+  ok-each : (s : Side) → one-way.allAllowed (wayFrom s) (frameLength (sendFormat (deviceAt s after-set-up .registers))) (begun (fresh p us .pair)) ss ≡ true
+  ok-each s = ap (λ (f : Format). one-way.allAllowed (wayFrom s) (frameLength f) (begun (fresh p us .pair)) ss) (sends-is s) ∙ side s
+    where
+      side : (s : Side) → one-way.allAllowed (wayFrom s) (L a b s) (begun (fresh p us .pair)) ss ≡ true
+      side A = all-each-way a b A (fresh p us) ss ok
+      side B = all-each-way a b B (fresh p us) ss ok
+
+  ends-as : (s : Side) → one-way.runs (wayFrom s) (begun (fresh p us .pair)) ss ≡ seenFrom s end
+  ends-as A = runs-is A (fresh p us) ss
+  ends-as B = runs-is B (fresh p us) ss
+
+  -- demand 3 is two one-way promises ..
+  pub each-way-right : (s : Side) → Promised (wayFrom s) (sends (settingsAt a b s)) (one-way.runs (wayFrom s) (begun (fresh p us .pair)) ss)
+  each-way-right s =
+      subst (λ (f : Format). Promised (wayFrom s) f (one-way.runs (wayFrom s) (begun (fresh p us .pair)) ss)) (sends-is s)
+      (one-way-right s p us (up .from-reset) (is-open s) ss (ok-each s))
+
+  -- .. by the bench's own logs
+  bench-right : (s : Side) → Promised (wayFrom s) (sends (settingsAt a b s)) (seenFrom s end)
+  bench-right s = subst (Promised (wayFrom s) (sends (settingsAt a b s))) (ends-as s) (each-way-right s)
+
+  -- 'idle', as the promise reads it from the log, is what it is in the device
+  pub each-way-idles : (s : Side) → Idles (sends (settingsAt a b s)) (deviceAt s (seenFrom s end .bench) .sender) (end .now) (seenFrom s end .log .written)
+  each-way-idles s = side s
+    where
+      ended : (s : Side) → let w = seenFrom s end in Idles (sends (settingsAt a b s)) (deviceAt s (w .bench) .sender) (w .now) (w .log .written)
+      ended s =
+          subst (λ (w : Logged Pair). Idles (sends (settingsAt a b s)) (deviceAt s (w .bench) .sender) (w .now) (w .log .written)) (ends-as s)
+          (subst (λ (f : Format). let w = one-way.runs (wayFrom s) (begun (fresh p us .pair)) ss in Idles f (deviceAt s (w .bench) .sender) (w .now) (w .log .written)) (sends-is s)
+          (one-way-idles s p us (up .from-reset) (is-open s) ss (ok-each s)))
+
+      side : (s : Side) → Idles (sends (settingsAt a b s)) (deviceAt s (seenFrom s end .bench) .sender) (end .now) (seenFrom s end .log .written)
+      side A = ended A
+      side B = ended B
+
+  -- no flag is shown
+  clean : (d : Device) → flagged d ≡ false → NoFlag d
+  clean d h =
+      let t = neither (statusBit 32 d || statusBit 16 d) (statusBit 8 d) h in
+      let u = neither (statusBit 32 d) (statusBit 16 d) (t .0) in
+      record { framing = u .0; overrun = u .1; parity = t .1 }
 
   -- demand 3
   pub demand-3 : Right a b end
   demand-3 =
       record {
-        there = flow-delivers (to a b pa pb agree) (ran .there);
-        back = flow-delivers (fro a b pa pb agree) (ran .back);
-        a-clean = no-flag a (end .pair .a) (ran .a-ready);
-        b-clean = no-flag b (end .pair .b) (ran .b-ready);
+        there = bench-right A .delivered;
+        back = bench-right B .delivered;
+        a-clean = clean (end .pair .a) (bench-right B .no-flag);
+        b-clean = clean (end .pair .b) (bench-right A .no-flag);
       }
-
-  b-fetched : Fetched (unread (end .pair .b)) (end .there .came) (end .there .read)
-  b-fetched = way-fetched (to a b pa pb agree) (end .pair .a .sender) (end .pair .b) (end .now) (end .there) (ran .b-ready .within) (ran .there)
-
-  a-fetched : Fetched (unread (end .pair .a)) (end .back .came) (end .back .read)
-  a-fetched = way-fetched (fro a b pa pb agree) (end .pair .b .sender) (end .pair .a) (end .now) (end .back) (ran .a-ready .within) (ran .back)
 
   -- what the bench sees of it
   pub bench-sees : Seen a b end
   bench-sees =
       record {
-        b-unread = b-fetched;
-        a-unread = a-fetched;
-        b-reads = first-writes (sends a) b-fetched (demand-3 .there);
-        a-reads = first-writes (sends b) a-fetched (demand-3 .back);
+        b-unread = bench-right A .unread;
+        a-unread = bench-right B .unread;
+        b-reads = bench-right A .reads;
+        a-reads = bench-right B .reads;
+        a-may = bench-right A .permission;
+        b-may = bench-right B .permission;
       }
-
-  -- 'idle', as the promise reads it from the log, is what it is in the device
-  pub a-idles : Idles (sends a) (end .pair .a .sender) (end .now) (end .there .written)
-  a-idles = flow-idles (to a b pa pb agree) (ran .there)
-
-  pub b-idles : Idles (sends b) (end .pair .b .sender) (end .now) (end .back .written)
-  b-idles = flow-idles (fro a b pa pb agree) (ran .back)

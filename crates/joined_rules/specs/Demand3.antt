@@ -1,33 +1,39 @@
 -- Demand 3, as document 01 puts it: two devices joined, freshly set up alike, writing only when told they may and read in time.
 -- Every character arrives unchanged, in order, with no flag, within L+D joined ticks of its write, and after exactly 1+D on an idle sender.
+-- What that says of one way of the line stands in `delivery`, specs/Promise.antt.
 -- Assumes nothing.
-use Prim.Native.Nat.{ℕ, suc, _+_, _%_, _≤_, _<_, max}
+use Prim.Native.Nat.{ℕ, _%_}
 use mathlib.Core.Path.{_≡_}
 use mathlib.Core.Bool.{Bool, true, false, cond, not, _&&_, _||_}
-use mathlib.Core.List.{List, [], _∷_, _++_, map}
+use mathlib.Core.List.{List, [], _∷_}
 use lib.Dec.{ltb, eqb}
 use Rattle.line_rules.specs.declared.Format.{Format}
-use Rattle.line_rules.specs.Sending.{cut, frameLength, stopSample}
+use Rattle.line_rules.specs.Sending.{frameLength}
 use Rattle.line_rules.specs.Sees.{Alike}
 use Rattle.ins2651_rules.specs.declared.Device.{Device}
-use Rattle.ins2651_rules.specs.Modes.{has, formatOf}
+use Rattle.ins2651_rules.specs.Modes.{has, formatOf, sendFormat, receiveFormat}
+use Rattle.ins2651_rules.specs.Conditions.{mayStart, breakOn, listening}
 use Rattle.ins2651_rules.specs.Refusals.{mode1Refusal, commandRefusal}
-use Rattle.ins2651_rules.specs.Runs.{Call, Reset, Write, SetPins, after, byCall, otherwise, atRead, atWrite, atPins, atOutputs}
-use Rattle.ins2651_rules.specs.Rows.{refusal}
+use Rattle.ins2651_rules.specs.RegisterWrites.{stored}
+use Rattle.ins2651_rules.specs.Runs.{Call, Reset, Write, SetPins, byCall, otherwise, atReset, atRead, atWrite, atPins, atTransmit, atReceive, atOutputs}
+use Rattle.delivery.specs.Log.{Way, nothingYet}
+use Rattle.delivery.specs.OneWay.{inTime}
+use Rattle.delivery.specs.Promise.{hasBegun, Delivered, Fetched, FirstWrites}
+use Rattle.joined_rules.specs.declared.Pair.{Pair}
 use Rattle.joined_rules.specs.Joining.{tick}
-use Rattle.joined_rules.specs.Bench.{statusBit, mayWrite, unread, Entry, Way, nothingYet, A, B, Step, Tick, At, Bench, step}
+use Rattle.joined_rules.specs.Bench.{statusBit, mayWrite, unread, Side, A, B, other, deviceAt, Step, Tick, At, allMoved, refusedOr, Bench, step}
 
 -- == freshly set up ==
 
--- what one side writes into its mode and command registers
+-- what stands in the mode and command registers of one side
 pub record Settings : Type 0 where
   pub mode1 : ℕ
   pub mode2 : ℕ
   pub command : ℕ
 
--- document 01's sequence: reset, both modes, a command, pins low
-abbrev pub setUp : Settings → List Call
-setUp s = Reset ∷ Write 2 (s .mode1) ∷ Write 2 (s .mode2) ∷ Write 3 (s .command) ∷ SetPins 0 0 0 ∷ []
+abbrev pub settingsAt : Settings → Settings → Side → Settings
+settingsAt a b A = a
+settingsAt a b B = b
 
 -- mode 1 and the command are accepted; factor bits that are not 00; bits 0 and 2 of the command on, and bits 3, 6 and 7 off
 pub record Proper (s : Settings) : Type 0 where
@@ -53,15 +59,55 @@ pub record Agree (a b : Settings) : Type 0 where
   pub there : Alike (sends a) (receives b)
   pub back : Alike (sends b) (receives a)
 
--- whatever the devices were: each side's sequence, then one joined tick; no data is written before
-abbrev pub fresh : Device → Device → Settings → Settings → Bench
-fresh d e a b =
-    record {
-      pair = tick (record { a = after d (setUp a); b = after e (setUp b) }) .pair;
-      now = 0;
-      there = nothingYet;
-      back = nothingYet;
-    }
+-- document 01's sequence of one side: reset, both modes, a command, pins low
+abbrev pub sequence : Settings → List Call
+sequence s = Reset ∷ Write 2 (s .mode1) ∷ Write 2 (s .mode2) ∷ Write 3 (s .command) ∷ SetPins 0 0 0 ∷ []
+
+-- what a set-up may be made of: any call but a tick and a write of address 0, at either side
+abbrev pub setsUp : Step → Bool
+setsUp Tick = false
+setsUp (At s c) = byCall (atWrite (λ address v. not (eqb address 0)) (atTransmit false (atReceive (λ x. false) (otherwise true)))) c
+
+abbrev pub allSetUp : List Step → Bool
+allSetUp [] = true
+allSetUp (u ∷ us) = setsUp u && allSetUp us
+
+abbrev pub isReset : Call → Bool
+isReset c = byCall (atReset true (otherwise false)) c
+
+-- a reset of this side is among the steps
+abbrev pub resets : Side → List Step → Bool
+resets s [] = false
+resets s (Tick ∷ us) = resets s us
+resets A (At A c ∷ us) = isReset c || resets A us
+resets A (At B c ∷ us) = resets A us
+resets B (At A c ∷ us) = resets B us
+resets B (At B c ∷ us) = isReset c || resets B us
+
+-- such calls, in any order and mixed in time between the two sides, with a reset of each
+pub record FromReset (us : List Step) : Type 0 where
+  pub calls : allSetUp us ≡ true
+  pub a-reset : resets A us ≡ true
+  pub b-reset : resets B us ≡ true
+
+-- a side holds its settings, and its pins are low; bit 4 of a command is not stored
+pub record Holds (s : Settings) (d : Device) : Type 0 where
+  pub mode1 : d .registers .mode1 ≡ s .mode1
+  pub mode2 : d .registers .mode2 ≡ s .mode2
+  pub command : d .registers .command ≡ stored (s .command)
+  pub dsr : d .pins .dsr ≡ 0
+  pub dcd : d .pins .dcd ≡ 0
+  pub cts : d .pins .cts ≡ 0
+
+-- whatever the devices were, these steps leave each side with its settings
+pub record FreshlySetUp (a b : Settings) (p : Pair) (us : List Step) : Type 0 where
+  pub from-reset : FromReset us
+  pub a-holds : Holds a (allMoved p us .a)
+  pub b-holds : Holds b (allMoved p us .b)
+
+-- then one joined tick; no data is written before
+abbrev pub fresh : Pair → List Step → Bench
+fresh p us = record { pair = tick (allMoved p us) .pair; now = 0; there = nothingYet; back = nothingYet }
 
 -- == what is allowed ==
 
@@ -77,20 +123,11 @@ harmless d c =
 
 -- and any call that is refused
 abbrev pub allowedCall : Device → Call → Bool
-allowedCall d c = not (eqb (refusal d c) 0) || harmless d c
-
--- when the latest came
-abbrev pub latest : List Entry → ℕ
-latest [] = 0
-latest (a ∷ as') = a .at
-
--- a joined tick of the device d that reads: a character that has come is read before L more
-abbrev pub inTime : ℕ → ℕ → Device → Way → Bool
-inTime L now d w = not (unread d) || ltb (suc now) (latest (w .came) + L)
+allowedCall d c = refusedOr (harmless d) d c
 
 module _ (a b : Settings) where
   abbrev pub allowed : Bench → Step → Bool
-  allowed w Tick = inTime (frameLength (sends a)) (w .now) (w .pair .b) (w .there) && inTime (frameLength (sends b)) (w .now) (w .pair .a) (w .back)
+  allowed w Tick = inTime (frameLength (sends a)) (w .now) (unread (w .pair .b)) (w .there) && inTime (frameLength (sends b)) (w .now) (unread (w .pair .a)) (w .back)
   allowed w (At A c) = allowedCall (w .pair .a) c
   allowed w (At B c) = allowedCall (w .pair .b) c
 
@@ -100,38 +137,6 @@ module _ (a b : Settings) where
   allAllowed w (s ∷ ss) = allowed w s && allAllowed (step w s) ss
 
 -- == what is promised ==
-
--- when the frames of these characters are over: each begins once it is written and the one before it is over, and takes L ticks.
--- A sender is idle from then on: no frame under way, nothing waiting (proofs/Promised.antt, `a-idles` and `b-idles`)
-abbrev pub over : ℕ → List Entry → ℕ
-over L [] = 0
-over L (x ∷ xs) = max (x .at) (over L xs) + L
-
--- in the sender's format
-module _ (f : Format) where
-  abbrev pub L : ℕ
-  L = frameLength f
-
-  abbrev pub D : ℕ
-  D = stopSample f
-
-  -- y is the arrival of the character x, written after the characters xs: unchanged but for the bits above its length,
-  -- not later than L+D after the write, at exactly 1+D where the sender was idle, and at 1+D after its frame began in every case
-  pub record Answers (y x : Entry) (xs : List Entry) : Type 0 where
-    pub value : y .value ≡ cut f (x .value)
-    pub bound : y .at ≤ x .at + (L + D)
-    pub idle : over L xs ≤ x .at → y .at ≡ x .at + (1 + D)
-    pub exact : y .at ≡ max (x .at) (over L xs) + (1 + D)
-
-  -- the arrivals, one by one, in the order of the writes; the latest first
-  pub data Answered : List Entry → List Entry → Type 0 where
-    nothing : Answered [] []
-    one : {y x : Entry} {ys xs : List Entry} → Answers y x xs → Answered ys xs → Answered (y ∷ ys) (x ∷ xs)
-
-  -- those of the first writes; each write that has none yet is still within its bound
-  pub data Delivered (now : ℕ) (ys : List Entry) : List Entry → Type 0 where
-    all : {xs : List Entry} → Answered ys xs → Delivered now ys xs
-    due : {x : Entry} {xs : List Entry} → now < x .at + (L + D) → Delivered now ys xs → Delivered now ys (x ∷ xs)
 
 -- framing, overrun and parity are 0
 pub record NoFlag (d : Device) : Type 0 where
@@ -148,23 +153,21 @@ pub record Right (a b : Settings) (w : Bench) : Type 0 where
 
 -- == what the bench sees ==
 
-abbrev pub values : List Entry → List ℕ
-values ys = map (λ (y : Entry). y .value) ys
-
--- bit 1 is 0 when all that came is read, and 1 from an arrival's tick until its read
-pub data Fetched : Bool → List Entry → List ℕ → Type 0 where
-  all : {ys : List Entry} → Fetched false ys (values ys)
-  but-one : {y : Entry} {ys : List Entry} → Fetched true (y ∷ ys) (values ys)
-
--- the values read are, in order, the first writes, cut
-pub record FirstWrites (f : Format) (vs : List ℕ) (xs : List Entry) : Type 0 where
-  pub later : List Entry
-  pub first : List Entry
-  pub written : xs ≡ later ++ first
-  pub read : vs ≡ map (λ (x : Entry). cut f (x .value)) first
-
+-- status bit 1 and the values read; and bit 0, from the log alone: 1 exactly when the frame of the latest write has begun, or with no write yet
 pub record Seen (a b : Settings) (w : Bench) : Type 0 where
   pub b-unread : Fetched (unread (w .pair .b)) (w .there .came) (w .there .read)
   pub a-unread : Fetched (unread (w .pair .a)) (w .back .came) (w .back .read)
   pub b-reads : FirstWrites (sends a) (w .there .read) (w .there .written)
   pub a-reads : FirstWrites (sends b) (w .back .read) (w .back .written)
+  pub a-may : mayWrite (w .pair .a) ≡ hasBegun (frameLength (sends a)) (w .now) (w .there .written)
+  pub b-may : mayWrite (w .pair .b) ≡ hasBegun (frameLength (sends b)) (w .now) (w .back .written)
+
+-- == one way alone ==
+
+-- after a set-up the way from this side is open: the device there may start a frame and has no break on, the other one listens, and the two
+-- formats are alike. What is then allowed is `allAllowed` of `wayFrom`, what is promised `Promised`; of the other way nothing is asked
+pub record Open (s : Side) (p : Pair) : Type 0 where
+  pub starts : mayStart (deviceAt s p) ≡ true
+  pub no-break : breakOn (deviceAt s p) ≡ false
+  pub listens : listening (deviceAt (other s) p) ≡ true
+  pub alike : Alike (sendFormat (deviceAt s p .registers)) (receiveFormat (deviceAt (other s) p .registers))

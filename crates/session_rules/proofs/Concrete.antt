@@ -2,7 +2,7 @@
 -- Assumes nothing.
 use Prim.Native.Nat.{ℕ}
 use mathlib.Core.Path.{_≡_, refl}
-use mathlib.Core.List.{List, [], _++_}
+use mathlib.Core.List.{List, [], _∷_, _++_}
 use Rattle.line_rules.specs.Sending.{part, oddOnes, parityBit}
 use Rattle.line_rules.specs.Range as line-range
 use Rattle.line_rules.specs.Receiving.{sample}
@@ -17,13 +17,18 @@ use Rattle.ins2651_rules.specs.RegisterReads.{readRegister, read}
 use Rattle.ins2651_rules.specs.RegisterWrites.{writeRegister, write}
 use Rattle.ins2651_rules.specs.Pinning.{pinned, setPins}
 use Rattle.ins2651_rules.specs.Ticks.{transmitTick, transmit, receiveTick, receive}
+use Rattle.ins2651_rules.specs.Runs as chip
 use Rattle.joined_rules.specs.Joining.{tick}
+use Rattle.joined_rules.specs.Bench.{A, B, Step, At}
+use Rattle.joined_rules.proofs.Concrete as bench
 use Rattle.fields.specs.Parted.{fieldOf, fieldsOf}
 use Rattle.fields.specs.Ascii.{bytes}
 use Rattle.records.specs.Records.{two, three, four, five}
-use Rattle.session_rules.specs.Calls.{obey, lineReply, saidText}
+use Rattle.session_rules.specs.Calls.{freshPair, obey, lineReply, saidText}
 use Rattle.rows.specs.Text.{decimal, refusalText, valueText, countsText, rowText}
 use Rattle.session_rules.specs.Whole.{linesOf, linesTaken, answerText}
+use Rattle.session_rules.specs.Delivered.{Meets, printed, Delivers}
+use Rattle.session_rules.proofs.Delivered.{text-delivers}
 
 -- document 01's session, and its whole output
 abbrev input : List ℕ
@@ -35,6 +40,33 @@ input =
 pub worked : answerText input ≡ bytes "R\tB\t1\t197\nR\tB\t1\t195\nR\tB\t0\t255\nR\tB\t1\t193\nN\t16\t0\n"
 unfolding answerText linesTaken linesOf two three four five obey lineReply decimal refusalText valueText countsText rowText saidText fieldOf fieldsOf part oddOnes parityBit sample link-transmitting.transmit link-hearing.receive line-range.inRange senderInRange receiverInRange formatOf statusByte inRange settled writeRefusal readRegister read writeRegister write pinned setPins transmitTick transmit receiveTick receive tick
 worked = refl
+
+-- its lines set both units up, eight of them, tick once, and go on as demand 3 allows ..
+abbrev setting-up : List Step
+setting-up =
+    At A (chip.Write 2 206) ∷ At A (chip.Write 2 126) ∷ At A (chip.Write 3 39) ∷ At B (chip.Write 2 206) ∷ At B (chip.Write 2 126) ∷ At B (chip.Write 3 39)
+    ∷ At A (chip.SetPins 0 0 0) ∷ At B (chip.SetPins 0 0 0) ∷ []
+
+pub worked-meets : Meets bench.worked bench.worked (linesTaken input)
+unfolding answerText linesTaken linesOf two three four five obey lineReply decimal refusalText valueText countsText rowText saidText fieldOf fieldsOf part oddOnes parityBit sample link-transmitting.transmit link-hearing.receive line-range.inRange senderInRange receiverInRange formatOf statusByte inRange settled writeRefusal readRegister read writeRegister write pinned setPins transmitTick transmit receiveTick receive tick
+worked-meets =
+    record {
+      set-up = setting-up;
+      after = bench.session;
+      steps = refl;
+      calls = refl;
+      a-holds = record { mode1 = refl; mode2 = refl; command = refl; dsr = refl; dcd = refl; cts = refl };
+      b-holds = record { mode1 = refl; mode2 = refl; command = refl; dsr = refl; dcd = refl; cts = refl };
+      allowed = refl;
+    }
+
+-- .. so what it prints for the read of address 0 is what was written
+pub worked-delivers : Delivers bench.worked bench.worked (linesTaken input) A
+worked-delivers = text-delivers bench.worked bench.worked bench.worked-proper bench.worked-proper bench.worked-agrees (linesTaken input) worked-meets A
+
+pub worked-prints : printed A 1 freshPair (linesTaken input) ≡ bytes "R\tB\t0\t255\n" ∷ []
+unfolding answerText linesTaken linesOf two three four five obey lineReply decimal refusalText valueText countsText rowText saidText fieldOf fieldsOf part oddOnes parityBit sample link-transmitting.transmit link-hearing.receive line-range.inRange senderInRange receiverInRange formatOf statusByte inRange settled writeRefusal readRegister read writeRegister write pinned setPins transmitTick transmit receiveTick receive tick
+worked-prints = refl
 
 -- an empty input gives N 0 0
 pub empty : answerText [] ≡ bytes "N\t0\t0\n"

@@ -13,7 +13,7 @@ use Rattle.ins2651_rules.specs.declared.Device.{Device}
 use Rattle.ins2651_rules.specs.Runs as chip
 use Rattle.ins2651_rules.proofs.Refused.{given-exactly, answers-refusal, refused-unchanged}
 use Rattle.joined_rules.specs.declared.Pair.{Pair}
-use Rattle.joined_rules.specs.Bench.{Bench, A, B, Step, At, step, runs}
+use Rattle.joined_rules.specs.Bench.{A, B, Step, At, moved, allMoved}
 use Rattle.joined_rules.proofs.Promised.{ticks-are-the-run}
 use Rattle.line_rules.specs.Sending.{bit}
 use Rattle.line_rules.proofs.Choice.{each}
@@ -114,38 +114,38 @@ as-many-answers p (l ∷ ls) = ap suc (as-many-answers (lineReply p l .pair) ls)
 
 -- == steps of the bench ==
 
-runs-append : (w : Bench) (ss ts : List Step) → runs w (ss ++ ts) ≡ runs (runs w ss) ts
-runs-append w [] ts = refl
-runs-append w (s ∷ ss) ts = runs-append (step w s) ss ts
+pub moved-append : (p : Pair) (ss ts : List Step) → allMoved p (ss ++ ts) ≡ allMoved (allMoved p ss) ts
+moved-append p [] ts = refl
+moved-append p (s ∷ ss) ts = moved-append (moved p s) ss ts
 
-call-step : (w : Bench) (unit : ℕ) (c : chip.Call) → step w (At (side unit) c) .pair ≡ putBack (w .pair) unit (chip.next (deviceOf (w .pair) unit) c)
-call-step w unit c = go (eqb unit 65)
+call-moves : (p : Pair) (unit : ℕ) (c : chip.Call) → moved p (At (side unit) c) ≡ putBack p unit (chip.next (deviceOf p unit) c)
+call-moves p unit c = go (eqb unit 65)
   where
-    go : (t : Bool) → step w (At (cond t A B) c) .pair ≡ cond t (record { a = chip.next (cond t (w .pair .a) (w .pair .b)) c; b = w .pair .b }) (record { a = w .pair .a; b = chip.next (cond t (w .pair .a) (w .pair .b)) c })
+    go : (t : Bool) → moved p (At (cond t A B) c) ≡ cond t (record { a = chip.next (cond t (p .a) (p .b)) c; b = p .b }) (record { a = p .a; b = chip.next (cond t (p .a) (p .b)) c })
     go true = refl
     go false = refl
 
-record-steps : (w : Bench) (r : Record) → runs w (recordSteps r) .pair ≡ obey (w .pair) r .pair
+record-moves : (p : Pair) (r : Record) → allMoved p (recordSteps r) ≡ obey p r .pair
 unfolding obey
-record-steps w (Write unit address v) = call-step w unit (chip.Write address v)
-record-steps w (Read unit address) = call-step w unit (chip.Read address)
-record-steps w (Pins unit dsr dcd cts) = call-step w unit (chip.SetPins dsr dcd cts)
-record-steps w (Reset unit) = call-step w unit chip.Reset
-record-steps w (Ticks count) = ticks-are-the-run count w
-record-steps w Shapeless = refl
+record-moves p (Write unit address v) = call-moves p unit (chip.Write address v)
+record-moves p (Read unit address) = call-moves p unit (chip.Read address)
+record-moves p (Pins unit dsr dcd cts) = call-moves p unit (chip.SetPins dsr dcd cts)
+record-moves p (Reset unit) = call-moves p unit chip.Reset
+record-moves p (Ticks count) = ticks-are-the-run count p
+record-moves p Shapeless = refl
 
-line-steps : (w : Bench) (l : List ℕ) → runs w (lineSteps l) .pair ≡ lineReply (w .pair) l .pair
+pub line-moves : (p : Pair) (l : List ℕ) → allMoved p (lineSteps l) ≡ lineReply p l .pair
 unfolding lineReply
-line-steps w l = go (overlong l) refl
+line-moves p l = go (overlong l) refl
   where
-    go : (t : Bool) → overlong l ≡ t → runs w (lineSteps l) .pair ≡ lineReply (w .pair) l .pair
+    go : (t : Bool) → overlong l ≡ t → allMoved p (lineSteps l) ≡ lineReply p l .pair
     go true e = rw e
-    go false e = rw e (record-steps w (recordOf (fieldsOf l)))
+    go false e = rw e (record-moves p (recordOf (fieldsOf l)))
 
--- the two devices after a session's lines are the bench's after their steps: what demand 3 says of the steps it says of the lines
-pub lines-are-steps : (w : Bench) (ls : List (List ℕ)) → runs w (allSteps ls) .pair ≡ pairAfter (w .pair) ls
-lines-are-steps w [] = refl
-lines-are-steps w (l ∷ ls) =
-    ap (λ (x : Bench). x .pair) (runs-append w (lineSteps l) (allSteps ls))
-    ∙ lines-are-steps (runs w (lineSteps l)) ls
-    ∙ ap (λ (p : Pair). pairAfter p ls) (line-steps w l)
+-- the two devices after a session's lines are those after their steps: what demand 3 says of the steps it says of the lines
+pub lines-are-steps : (p : Pair) (ls : List (List ℕ)) → allMoved p (allSteps ls) ≡ pairAfter p ls
+lines-are-steps p [] = refl
+lines-are-steps p (l ∷ ls) =
+    moved-append p (lineSteps l) (allSteps ls)
+    ∙ lines-are-steps (allMoved p (lineSteps l)) ls
+    ∙ ap (λ (q : Pair). pairAfter q ls) (line-moves p l)

@@ -4,3 +4,4 @@ pub mod Rows
 pub mod Steps
 pub mod Bytes
 pub mod Offers
+pub mod Delivered

@@ -4,13 +4,12 @@
 use Prim.Native.Nat.{ℕ, suc, _+_, _*_, _/_, _%_, _^_, _≤_, _<_, max}
 use native.Mathlib.Omega.{arith}
 use mathlib.Core.Path.{_≡_, refl, ap, ap₂, sym, subst, _∙_}
-use mathlib.Core.Bool.{Bool, true, false, cond, not, _&&_, _||_}
+use mathlib.Core.Bool.{Bool, true, false, cond, not, _&&_}
 use mathlib.Core.List.{List, [], _∷_, map}
-use lib.Dec.{ltb}
-use borrow.Author.Tests.{ltb-true, ltb-false, lt-ltb}
+use lib.Dec.{ltb, eqb}
+use borrow.Author.Tests.{ltb-true, ltb-false, lt-ltb, le-ltb}
 use Rattle.line_rules.specs.declared.Format.{Format}
 use Rattle.line_rules.specs.declared.Receiver.{Receiver}
-use Rattle.line_rules.specs.declared.Arrival.{Arrival}
 use Rattle.line_rules.specs.declared.Heard.{Heard}
 use Rattle.line_rules.specs.declared.Heard.the-variants.{Character}
 use Rattle.line_rules.specs.Sending.{bit, on, half, cut, frameLength, stopSample, level, listed}
@@ -29,13 +28,11 @@ use Rattle.link_rules.specs.Parts.{noFrame, idleSender, loaded, emptied}
 use Rattle.link_rules.specs.Transmitting.{frameNext, transmit}
 use Rattle.link_rules.specs.Hearing.{stepped, holds, arrives, afterSample, receive}
 use Rattle.link_rules.proofs.Halves.{transmit-under, length-bound, frameOf, frame-goes-on, frame-ends, Tuned, stepped-tuned, receive-is}
-use Rattle.joined_rules.specs.Bench.{Entry, Way, nothingYet, logWrite, logArrival, logRead}
-use Rattle.joined_rules.specs.Demand3
-use Rattle.joined_rules.specs.Demand3.{latest, over, Answers, Answered, nothing, one, Delivered, due, values, Fetched, FirstWrites}
-
--- an arrival with a wrong parity or a stop of 0
-abbrev pub faulty : Arrival → Bool
-faulty a = a .parity || a .framing
+use Rattle.delivery.specs.Log.{Entry, Way, nothingYet, logWrite, logArrival, logRead}
+use Rattle.delivery.specs.OneWay.{latest}
+use Rattle.delivery.specs.Promise
+use Rattle.delivery.specs.Promise.{over, hasBegun, Answers, Answered, nothing, one, Delivered, due, values, Fetched, FirstWrites}
+use Rattle.delivery.specs.Ends.{faulty}
 
 -- a character that is read, or not: what the receiving half holds, what came and what was read
 pub data Held : ℕ → ℕ → List Entry → List ℕ → Type 0 where
@@ -364,9 +361,9 @@ module _ {f g : Format} (fit : Fit f g) where
   -- == what it promises ==
 
   delivered-begun : {now : ℕ} {fr : Frame} {st : Receiver} {begun come ys : List Entry} → Phase now fr st begun come → Answered f ys come → Delivered f now ys begun
-  delivered-begun (rest h) an = Demand3.all an
-  delivered-begun (fly {x = x} i p h b a l) an = due {x = x} (omega arith) (Demand3.all an)
-  delivered-begun (tail c i h l a) an = Demand3.all an
+  delivered-begun (rest h) an = Promise.all an
+  delivered-begun (fly {x = x} i p h b a l) an = due {x = x} (omega arith) (Promise.all an)
+  delivered-begun (tail c i h l a) an = Promise.all an
 
   delivered-all : {now u v : ℕ} {ws begun ys : List Entry} → Waits now u v ws begun → Delivered f now ys begun → Delivered f now ys ws
   delivered-all empty d = d
@@ -376,8 +373,8 @@ module _ {f g : Format} (fit : Fit f g) where
   flow-delivers h = delivered-all (h .waits) (delivered-begun (h .phase) (h .answered))
 
   held-fetched : {u v : ℕ} {ys : List Entry} {vs : List ℕ} → Held u v ys vs → Fetched (on u) ys vs
-  held-fetched all = Demand3.all
-  held-fetched but-one = Demand3.but-one
+  held-fetched all = Promise.all
+  held-fetched but-one = Promise.but-one
 
   pub flow-fetched : {s : SenderHalf} {r : ReceiverHalf} {now : ℕ} {w : Way} → Flow s r now w → Fetched (on (r .unread)) (w .came) (w .read)
   flow-fetched h = held-fetched (h .held)
@@ -392,6 +389,22 @@ module _ {f g : Format} (fit : Fit f g) where
 
   pub flow-idles : {s : SenderHalf} {r : ReceiverHalf} {now : ℕ} {w : Way} → Flow s r now w → Idles f s now (w .written)
   flow-idles h = let k = idles (h .phase) (h .waits) in record { nothing = k .nothing; over-by-now = k .over-by-now }
+
+  -- the frames of these writes have begun, so that of the latest has
+  latest-begun : {now : ℕ} {fr : Frame} {st : Receiver} {begun come : List Entry} → Phase now fr st begun come → hasBegun L now begun ≡ true
+  latest-begun (rest {xs = []} h) = refl
+  latest-begun (rest {xs = x ∷ xs} h) = lt-ltb (max (x .at) (over L xs)) _ (omega (arith, ends))
+  latest-begun (fly {x = x} {xs = xs} i p h b a l) = lt-ltb (max (x .at) (over L xs)) _ (omega arith)
+  latest-begun (tail {xs = []} c i h l a) = refl
+  latest-begun (tail {xs = x ∷ xs} c i h l a) = lt-ltb (max (x .at) (over L xs)) _ (omega arith)
+
+  permits : {now u v : ℕ} {ws begun : List Entry} → hasBegun L now begun ≡ true → Waits now u v ws begun → eqb u 0 ≡ hasBegun L now ws
+  permits b empty = sym b
+  permits {now = now} b (full {x = x} {xs = xs} c a m l) = sym (le-ltb (max (x .at) (over L xs)) now m)
+
+  -- the holding register is empty exactly when the frame of the latest write has begun
+  pub flow-permits : {s : SenderHalf} {r : ReceiverHalf} {now : ℕ} {w : Way} → Flow s r now w → eqb (s .full) 0 ≡ hasBegun L now (w .written)
+  flow-permits h = permits (latest-begun (h .phase)) (h .waits)
 
   -- nothing has happened yet
   pub flow-begins : (s : SenderHalf) (r : ReceiverHalf) → s ≡ idleSender → r .state ≡ searching → r .unread ≡ 0 → Tuned g r → Flow s r 0 nothingYet
@@ -415,12 +428,12 @@ answered-values f nothing = refl
 answered-values f (one a an) = ap₂ (λ (v : ℕ) (vs : List ℕ). v ∷ vs) (a .value) (answered-values f an)
 
 answered-first : (f : Format) {b : Bool} {ys xs : List Entry} {vs : List ℕ} → Fetched b ys vs → Answered f ys xs → FirstWrites f vs xs
-answered-first f {xs = xs} Demand3.all an = record { later = []; first = xs; written = refl; read = answered-values f an }
-answered-first f Demand3.but-one (one {x = x} {xs = xs} a an) = record { later = x ∷ []; first = xs; written = refl; read = answered-values f an }
+answered-first f {xs = xs} Promise.all an = record { later = []; first = xs; written = refl; read = answered-values f an }
+answered-first f Promise.but-one (one {x = x} {xs = xs} a an) = record { later = x ∷ []; first = xs; written = refl; read = answered-values f an }
 
 -- the values read are those of the first writes, cut
 pub first-writes : (f : Format) {now : ℕ} {b : Bool} {ys xs : List Entry} {vs : List ℕ} → Fetched b ys vs → Delivered f now ys xs → FirstWrites f vs xs
-first-writes f g (Demand3.all an) = answered-first f g an
+first-writes f g (Promise.all an) = answered-first f g an
 first-writes f g (due {x = x} h d) =
     let r = first-writes f g d in
     record { later = x ∷ r .later; first = r .first; written = ap (λ (l : List Entry). x ∷ l) (r .written); read = r .read }

@@ -1,0 +1,77 @@
+-- What the two ends of a way have to show to be joined: each follows its half of `link` while nothing changes what the way rests on.
+-- Assumes nothing.
+use Prim.Native.Nat.{ℕ}
+use mathlib.Core.Path.{_≡_}
+use mathlib.Core.Bool.{Bool, true, false, _||_}
+use lib.Dec.{eqb}
+use Rattle.line_rules.specs.declared.Format.{Format}
+use Rattle.line_rules.specs.declared.Arrival.{Arrival}
+use Rattle.line_rules.specs.Sending.{on}
+use Rattle.line_rules.specs.Receiving.{searching}
+use Rattle.link_rules.specs.declared.SenderHalf.{SenderHalf}
+use Rattle.link_rules.specs.declared.ReceiverHalf.{ReceiverHalf}
+use Rattle.link_rules.specs.declared.Received.{Received}
+use Rattle.link_rules.specs.Parts.{idleSender, loaded, emptied}
+use Rattle.link_rules.specs.Transmitting.{transmit}
+use Rattle.link_rules.specs.Hearing.{arrives, receive}
+use Rattle.delivery.specs.OneWay.{Deed, Ticks, Writes, Reads, Passes, OneWay}
+
+-- == the halves ==
+
+-- what a deed makes of the sending half: a tick of one that may start, with no break on, in the format f; a write loads it
+abbrev pub senderAfter : Format → Deed → SenderHalf → SenderHalf
+senderAfter f Ticks h = transmit h true false f .half
+senderAfter f (Writes v) h = loaded h v
+senderAfter f Reads h = h
+senderAfter f Passes h = h
+
+-- the tick of a receiving half that is on, in the format g, with the level x
+abbrev pub hears : Format → Bool → ReceiverHalf → Received
+hears g x h = receive h true g x
+
+-- what a deed makes of the receiving half: a tick, with the level x on the line; a read empties it
+abbrev pub receiverAfter : Format → Bool → Deed → ReceiverHalf → ReceiverHalf
+receiverAfter g x Ticks h = hears g x h .half
+receiverAfter g x (Writes v) h = h
+receiverAfter g x Reads h = emptied h
+receiverAfter g x Passes h = h
+
+-- an arrival with a wrong parity or a stop of 0
+abbrev pub faulty : Arrival → Bool
+faulty a = a .parity || a .framing
+
+-- a deed brings a fault: one that arrives, or a register found unread
+abbrev pub faults : Format → Bool → Deed → ReceiverHalf → Bool
+faults g x Ticks h = hears g x h .overrun || arrives faulty (hears g x h .heard)
+faults g x (Writes v) h = false
+faults g x Reads h = false
+faults g x Passes h = false
+
+-- == the ends ==
+
+-- an end that sends in the format f: `Ready` is what its sending rests on
+pub record Sends {W X : Type 0} (o : OneWay W X) (f : Format) (Ready : W → Type 0) (half : W → SenderHalf) : Type 0 where
+  -- it may be written when its holding register is empty, and sends what its half sends
+  pub may-write : (w : W) → Ready w → o .mayWrite w ≡ eqb (half w .full) 0
+  pub level : (w : W) → Ready w → o .level w ≡ transmit (half w) true false f .level
+  -- a steady step leaves it ready, and does to its half what the deed does
+  pub ready : (w : W) (x : X) → Ready w → o .steady w x ≡ true → Ready (o .next w x)
+  pub follows : (w : W) (x : X) → Ready w → o .steady w x ≡ true → half (o .next w x) ≡ senderAfter f (o .deed w x) (half w)
+
+-- an end that receives in the format g: `Ready` is what its receiving rests on, with no error flag set
+pub record Receives {W X : Type 0} (o : OneWay W X) (g : Format) (Ready : W → Type 0) (half : W → ReceiverHalf) : Type 0 where
+  -- it holds an unread character when its half does, and a read gives that; it shows no flag
+  pub unread : (w : W) → Ready w → o .unread w ≡ on (half w .unread)
+  pub character : (w : W) → Ready w → o .character w ≡ half w .holding
+  pub no-flag : (w : W) → Ready w → o .flagged w ≡ false
+  -- a steady step that brings no fault leaves it ready; every steady step does to its half what the deed does
+  pub ready : (w : W) (x : X) → Ready w → o .steady w x ≡ true → faults g (o .level w) (o .deed w x) (half w) ≡ false → Ready (o .next w x)
+  pub follows : (w : W) (x : X) → Ready w → o .steady w x ≡ true → half (o .next w x) ≡ receiverAfter g (o .level w) (o .deed w x) (half w)
+
+-- where a way begins: both ends ready, nothing waiting and nothing under way at the one, the other searching for a start, with nothing unread
+pub record Begins {W : Type 0} (Sending Hearing : W → Type 0) (sender : W → SenderHalf) (receiver : W → ReceiverHalf) (w : W) : Type 0 where
+  pub sends : Sending w
+  pub hears : Hearing w
+  pub idle : sender w ≡ idleSender
+  pub searches : receiver w .state ≡ searching
+  pub read : receiver w .unread ≡ 0

@@ -1,0 +1,4 @@
+pub mod Log
+pub mod OneWay
+pub mod Promise
+pub mod Ends

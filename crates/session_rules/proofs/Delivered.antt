@@ -1,0 +1,183 @@
+-- Demand 3 from a session's text: what is printed for the reads of address 0 made while bit 1 was 1 is what was written, cut, in order.
+-- Assumes nothing.
+use Prim.Native.Nat.{ℕ, zero, suc}
+use mathlib.Core.Path.{_≡_, refl, sym, ap, ap₂, subst, _∙_}
+use mathlib.Core.Bool.{Bool, true, false, cond, _&&_, false≢true}
+use mathlib.Core.List.{List, [], _∷_, _++_, map, map-append}
+use lib.Dec.{eqb, leb}
+use lib.ListN.{replicate}
+use borrow.Author.Tests.{eqb-true}
+use Rattle.line_rules.proofs.Choice.{either}
+use Rattle.line_rules.proofs.Table.{both}
+use Rattle.fields.specs.Parted.{fieldsOf}
+use Rattle.ins2651_rules.specs.Runs as chip
+use Rattle.ins2651_rules.specs.RegisterReads.{readRegister, read}
+use Rattle.ins2651_rules.specs.declared.Device.{Device}
+use Rattle.delivery.specs.OneWay.{Deed, Ticks, Writes, Reads, Passes, getting, puts, gets}
+use Rattle.delivery.specs.Promise.{InOrder}
+use Rattle.joined_rules.specs.declared.Pair.{Pair}
+use Rattle.joined_rules.specs.Bench.{unread, character, Side, A, B, other, deviceAt, Step, Tick, At, moved, allMoved, writing, reading, deedFrom, wayFrom}
+use Rattle.joined_rules.specs.Demand3.{Settings, settingsAt, Proper, sends, Agree}
+use Rattle.joined_rules.proofs.Order.{run-in-order}
+use Rattle.records.specs.declared.Record.{Record}
+use Rattle.records.specs.declared.Record.the-variants.{Write, Read, Pins, Reset, Shapeless}
+use Rattle.records.specs.declared.Record.the-variants as record-of
+use Rattle.records.specs.Records.{aUnit, recordOf}
+use Rattle.records.specs.Printed.{proper}
+use Rattle.records.proofs.Parser.{reads-printed}
+use Rattle.rows.specs.Text.{rowText, valueText}
+use Rattle.session_rules.specs.declared.Said.{Said}
+use Rattle.session_rules.specs.declared.Said.the-variants.{Value}
+use Rattle.session_rules.specs.Calls.{freshPair, deviceOf, obey, lineReply, saidText}
+use Rattle.session_rules.specs.Rows.{overlong, shapeless}
+use Rattle.session_rules.specs.Steps.{side, recordSteps, lineSteps, allSteps}
+use Rattle.session_rules.specs.Whole.{linesTaken}
+use Rattle.session_rules.specs.Delivered.{Meets, unitOf, isRead, fetches, printed, Shows, Delivers}
+use Rattle.session_rules.proofs.Lines.{line-moves}
+
+-- == one line ==
+
+-- what the steps get before others
+gets-append : (s : Side) (p : Pair) (xs ys : List Step) → gets (wayFrom s) p (xs ++ ys) ≡ gets (wayFrom s) p xs ++ gets (wayFrom s) (allMoved p xs) ys
+gets-append s p [] ys = refl
+gets-append s p (x ∷ xs) ys = ap (getting (unread (deviceAt (other s) p)) (character (deviceAt (other s) p)) (deedFrom s x)) (gets-append s (moved p x) xs ys)
+    ∙ getting-append (unread (deviceAt (other s) p)) (deedFrom s x)
+  where
+    vs : List ℕ
+    vs = gets (wayFrom s) (moved p x) xs
+
+    ws : List ℕ
+    ws = gets (wayFrom s) (allMoved (moved p x) xs) ys
+
+    c : ℕ
+    c = character (deviceAt (other s) p)
+
+    getting-append : (u : Bool) (k : Deed) → getting u c k (vs ++ ws) ≡ getting u c k vs ++ ws
+    getting-append u Ticks = refl
+    getting-append u (Writes v) = refl
+    getting-append true Reads = refl
+    getting-append false Reads = refl
+    getting-append u Passes = refl
+
+-- ticks get nothing
+ticks-get : (s : Side) (n : ℕ) (p : Pair) → gets (wayFrom s) p (replicate n Tick) ≡ []
+ticks-get s zero p = refl
+ticks-get A (suc n) p = ticks-get A n (moved p Tick)
+ticks-get B (suc n) p = ticks-get B n (moved p Tick)
+
+-- what is printed for a line of one step, where it is for a read that it prints the character
+one-step : (unit c : ℕ) (k : Deed) (u : Bool) (text : List ℕ) (rest : List (List ℕ)) → (isRead k ≡ true → text ≡ valueText unit 0 c)
+    → cond (isRead k && u) (text ∷ rest) rest ≡ map (valueText unit 0) (getting u c k []) ++ rest
+one-step unit c Ticks u text rest h = refl
+one-step unit c (Writes v) u text rest h = refl
+one-step unit c Reads true text rest h = ap (λ (t : List ℕ). t ∷ rest) (h refl)
+one-step unit c Reads false text rest h = refl
+one-step unit c Passes u text rest h = refl
+
+-- a read of address 0 prints what the device holds
+read-said : (s : Side) (n : ℕ) (p : Pair) → saidText n (obey p (Read (unitOf s) 0) .said) ≡ valueText (unitOf s) 0 (character (deviceAt s p))
+unfolding obey saidText rowText read readRegister
+read-said A n p = refl
+read-said B n p = refl
+
+-- a read on the way from this side is one of address 0 at the other
+at-read : (s : Side) (unit address : ℕ) → aUnit unit ≡ true → isRead (deedFrom s (At (side unit) (chip.Read address))) ≡ true → (unit ≡ unitOf (other s)) × (address ≡ 0)
+at-read s unit address h r = by-unit s (eqb unit 65) refl r
+  where
+    zero-is : (t : Bool) → eqb address 0 ≡ t → isRead (cond t Reads Passes) ≡ true → address ≡ 0
+    zero-is true e q = eqb-true address 0 e
+    zero-is false e q = absurd (false≢true q)
+
+    by-unit : (s : Side) (t : Bool) → eqb unit 65 ≡ t → isRead (deedFrom s (At (side unit) (chip.Read address))) ≡ true → (unit ≡ unitOf (other s)) × (address ≡ 0)
+    by-unit A true e q = absurd (false≢true (rw e at q))
+    by-unit A false e q = (eqb-true unit 66 (rw e at h), zero-is (eqb address 0) refl (rw e at q))
+    by-unit B true e q = (eqb-true unit 65 e, zero-is (eqb address 0) refl (rw e at q))
+    by-unit B false e q = absurd (false≢true (rw e at q))
+
+-- no other call is a read
+no-writing : (c : chip.Call) → isRead (writing c) ≡ false
+no-writing chip.Reset = refl
+no-writing (chip.Read address) = refl
+no-writing (chip.Write address v) = either (λ (k : Deed). isRead k ≡ false) (eqb address 0) refl refl
+no-writing (chip.SetPins dsr dcd cts) = refl
+no-writing chip.Transmit = refl
+no-writing (chip.Receive x) = refl
+no-writing chip.Outputs = refl
+
+no-read : (s : Side) (t : Side) (c : chip.Call) → isRead (reading c) ≡ false → isRead (deedFrom s (At t c)) ≡ false
+no-read A A c h = no-writing c
+no-read A B c h = h
+no-read B A c h = h
+no-read B B c h = no-writing c
+
+module _ (s : Side) (n : ℕ) (p : Pair) (rest : List (List ℕ)) where
+  abbrev unit : ℕ
+  unit = unitOf (other s)
+
+  -- what is printed for these steps of a line that says so
+  abbrev Prints : List Step → Said → Type 0
+  Prints xs said = cond (fetches s p xs) (saidText n said ∷ rest) rest ≡ map (valueText unit 0) (gets (wayFrom s) p xs) ++ rest
+
+  -- a call that is no read
+  silent : (t : Side) (c : chip.Call) (said : Said) → isRead (reading c) ≡ false → Prints (At t c ∷ []) said
+  silent t c said h =
+      one-step unit (character (deviceAt (other s) p)) (deedFrom s (At t c)) (unread (deviceAt (other s) p)) (saidText n said) rest
+      (λ r. absurd (false≢true (sym (no-read s t c h) ∙ r)))
+
+  ticks-print : (k : ℕ) (said : Said) → Prints (replicate k Tick) said
+  ticks-print zero said = refl
+  ticks-print (suc k) said = side-prints s
+    where
+      side-prints : (s : Side) → cond (fetches s p (Tick ∷ replicate k Tick)) (saidText n said ∷ rest) rest ≡ map (valueText (unitOf (other s)) 0) (gets (wayFrom s) p (replicate (suc k) Tick)) ++ rest
+      side-prints A = rw (ticks-get A k (moved p Tick))
+      side-prints B = rw (ticks-get B k (moved p Tick))
+
+  record-prints : (r : Record) → (shapeless r ≡ false → proper r ≡ true) → Prints (recordSteps r) (obey p r .said)
+  record-prints (Write u address v) h = silent (side u) (chip.Write address v) (obey p (Write u address v) .said) refl
+  record-prints (Read u address) h =
+      one-step unit (character (deviceAt (other s) p)) (deedFrom s (At (side u) (chip.Read address))) (unread (deviceAt (other s) p))
+      (saidText n (obey p (Read u address) .said)) rest
+      (λ r. let e = at-read s u address (both (aUnit u) (leb address 255) (h refl) .0) r in
+      ap₂ (λ (x y : ℕ). saidText n (obey p (Read x y) .said)) (e .0) (e .1) ∙ read-said (other s) n p)
+  record-prints (Pins u dsr dcd cts) h = silent (side u) (chip.SetPins dsr dcd cts) (obey p (Pins u dsr dcd cts) .said) refl
+  record-prints (Reset u) h = silent (side u) chip.Reset (obey p (Reset u) .said) refl
+  record-prints (record-of.Ticks count) h = ticks-print count (obey p (record-of.Ticks count) .said)
+  record-prints Shapeless h = refl
+
+  line-prints : (l : List ℕ) → Prints (lineSteps l) (lineReply p l .said)
+  unfolding lineReply
+  line-prints l = go (overlong l) refl
+    where
+      r : Record
+      r = recordOf (fieldsOf l)
+
+      known : shapeless r ≡ false → proper r ≡ true
+      known e = reads-printed l (λ z. false≢true (sym e ∙ ap shapeless z)) .within
+
+      go : (t : Bool) → overlong l ≡ t → Prints (lineSteps l) (lineReply p l .said)
+      go true e = rw e
+      go false e = rw e (record-prints r known)
+
+-- == all lines ==
+
+prints-gets : (s : Side) (n : ℕ) (p : Pair) (ls : List (List ℕ)) → printed s n p ls ≡ map (valueText (unitOf (other s)) 0) (gets (wayFrom s) p (allSteps ls))
+prints-gets s n p [] = refl
+prints-gets s n p (l ∷ ls) =
+    let rest : List (List ℕ) = printed s (suc n) (lineReply p l .pair) ls in
+    let here : List ℕ = gets (wayFrom s) p (lineSteps l) in
+    let later : List ℕ = gets (wayFrom s) (allMoved p (lineSteps l)) (allSteps ls) in
+    line-prints s n p rest l
+    ∙ ap (λ (ts : List (List ℕ)). map (valueText (unitOf (other s)) 0) here ++ ts)
+    (prints-gets s (suc n) (lineReply p l .pair) ls ∙ ap (λ (q : Pair). map (valueText (unitOf (other s)) 0) (gets (wayFrom s) q (allSteps ls))) (sym (line-moves p l)))
+    ∙ sym (map-append (valueText (unitOf (other s)) 0) here later)
+    ∙ ap (map (valueText (unitOf (other s)) 0)) (sym (gets-append s p (lineSteps l) (allSteps ls)))
+
+-- both ways
+pub text-delivers : (a b : Settings) → Proper a → Proper b → Agree a b → (lines : List (List ℕ)) → Meets a b lines → (s : Side) → Delivers a b lines s
+text-delivers a b pa pb agree lines m s =
+    record {
+      values = gets (wayFrom s) freshPair (allSteps lines);
+      shown = prints-gets s 1 freshPair lines;
+      in-order = subst (λ (xs : List Step). InOrder (sends (settingsAt a b s)) (gets (wayFrom s) freshPair xs) (puts (wayFrom s) freshPair xs)) (sym (m .steps))
+          (run-in-order a b pa pb agree (m .set-up) (m .after) (m .calls) (m .a-holds) (m .b-holds) (m .allowed) s);
+    }
