@@ -398,13 +398,13 @@ module _ {f g : Format} (fit : Fit f g) where
   latest-begun (tail {xs = []} c i h l a) = refl
   latest-begun (tail {xs = x ∷ xs} c i h l a) = lt-ltb (max (x .at) (over L xs)) _ (omega arith)
 
-  permits : {now u v : ℕ} {ws begun : List Entry} → hasBegun L now begun ≡ true → Waits now u v ws begun → eqb u 0 ≡ hasBegun L now ws
-  permits b empty = sym b
-  permits {now = now} b (full {x = x} {xs = xs} c a m l) = sym (le-ltb (max (x .at) (over L xs)) now m)
+  permits-is : {now u v : ℕ} {ws begun : List Entry} → hasBegun L now begun ≡ true → Waits now u v ws begun → eqb u 0 ≡ hasBegun L now ws
+  permits-is b empty = sym b
+  permits-is {now = now} b (full {x = x} {xs = xs} c a m l) = sym (le-ltb (max (x .at) (over L xs)) now m)
 
   -- the holding register is empty exactly when the frame of the latest write has begun
   pub flow-permits : {s : SenderHalf} {r : ReceiverHalf} {now : ℕ} {w : Way} → Flow s r now w → eqb (s .full) 0 ≡ hasBegun L now (w .written)
-  flow-permits h = permits (latest-begun (h .phase)) (h .waits)
+  flow-permits h = permits-is (latest-begun (h .phase)) (h .waits)
 
   -- nothing has happened yet
   pub flow-begins : (s : SenderHalf) (r : ReceiverHalf) → s ≡ idleSender → r .state ≡ searching → r .unread ≡ 0 → Tuned g r → Flow s r 0 nothingYet

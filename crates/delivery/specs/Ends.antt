@@ -1,6 +1,5 @@
 -- What the two ends of a way have to show to be joined: each follows its half of `link` while nothing changes what the way rests on.
 -- Assumes nothing.
-use Prim.Native.Nat.{ℕ}
 use mathlib.Core.Path.{_≡_}
 use mathlib.Core.Bool.{Bool, true, false, _||_}
 use lib.Dec.{eqb}

@@ -8,7 +8,7 @@ use mathlib.Core.List.{List, [], _∷_, _++_, map}
 use lib.Dec.{ltb}
 use Rattle.line_rules.specs.declared.Format.{Format}
 use Rattle.line_rules.specs.Sending.{cut, frameLength, stopSample}
-use Rattle.delivery.specs.Log.{Entry, Way}
+use Rattle.delivery.specs.Log.{Entry}
 use Rattle.delivery.specs.OneWay.{OneWay, Logged}
 
 -- when the frames of these characters are over: each begins once it is written and the one before it is over, and takes L ticks.

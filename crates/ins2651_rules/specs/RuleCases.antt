@@ -176,6 +176,15 @@ emptyMarkScripts =
     ∷ (oneFrame ++ command 4 ∷ TxD (ones 4) ∷ command enabled ∷ Status (pinsLow192 + ready1) ∷ [])
     ∷ []
 
+-- == permission ==
+
+-- status bit 0 is 0 from a write of THR to the first tick of its frame, and 1 from then on: under the frame and behind it
+abbrev permissionScripts : List (List Step)
+permissionScripts =
+    (prepared 65 0 ++ Status (pinsLow192 + eitherMark4 + ready1) ∷ thr 255 ∷ Status pinsLow192 ∷ TxD (zeros 1) ∷ Status (pinsLow192 + ready1)
+    ∷ thr 255 ∷ Status pinsLow192 ∷ TxD (ones 6) ∷ Status pinsLow192 ∷ TxD (zeros 1) ∷ Status (pinsLow192 + ready1) ∷ TxD (ones 6) ∷ Status (pinsLow192 + eitherMark4 + ready1) ∷ [])
+    ∷ []
+
 -- == registers read back ==
 
 abbrev readBackScripts : List (List Step)
@@ -244,4 +253,4 @@ hearingScripts =
     ∷ []
 
 abbrev pub scripts : List (List Step)
-scripts = sendingScripts ++ emptyMarkScripts ++ readBackScripts ++ hearingScripts
+scripts = sendingScripts ++ emptyMarkScripts ++ permissionScripts ++ readBackScripts ++ hearingScripts

@@ -5,10 +5,10 @@ use native.Mathlib.Omega.{arith}
 use mathlib.Core.Path.{_≡_, refl, sym, ap, ap₂, _∙_}
 use mathlib.Core.Bool.{Bool, true, false, _||_, _&&_, true≢false}
 use lib.Dec.{eqb, ltb}
-use borrow.Author.Tests.{ltb-true, ne-eqb}
+use borrow.Author.Tests.{ltb-true, eqb-true}
 use Rattle.line_rules.specs.declared.Format.{Format}
 use Rattle.line_rules.specs.Sending.{on}
-use Rattle.line_rules.proofs.Choice.{either}
+use Rattle.line_rules.proofs.Choice.{either, each}
 use Rattle.link_rules.specs.declared.SenderHalf.{SenderHalf}
 use Rattle.link_rules.specs.declared.ReceiverHalf.{ReceiverHalf}
 use Rattle.ins2651_rules.specs.declared.Registers.{Registers}
@@ -30,8 +30,9 @@ use Rattle.ins2651_rules.specs.Rows.{refusal}
 use Rattle.ins2651_rules.proofs.Done.{does-read, does-write, does-pins}
 use Rattle.ins2651_rules.proofs.Refused.{read-address}
 use Rattle.ins2651_rules.proofs.Leaves.{SameErrors, withSyns}
+use Rattle.ins2651_rules.proofs.WritesLeave.{NoErrors, ErrorsBy}
 use Rattle.ins2651_rules.proofs.StatusBits.{status-bits}
-use Rattle.delivery.specs.OneWay.{Passes}
+use Rattle.delivery.specs.OneWay.{Deed, Writes, Reads, Passes}
 use Rattle.delivery.specs.Ends.{senderAfter, receiverAfter}
 use Rattle.joined_rules.specs.Bench.{statusBit, mayWrite, unread, flagged, character, writing, reading}
 
@@ -60,20 +61,33 @@ flagged-is d h =
     ap₂ (λ (x y : Bool). x || y)
     (ap₂ (λ (x y : Bool). x || y) (bit-is d 32 h ∙ status-bits d .bit5) (bit-is d 16 h ∙ status-bits d .bit4)) (bit-is d 8 h ∙ status-bits d .bit3)
 
--- == a call that is refused ==
+-- == what a call is to a way ==
 
--- it is no write of address 0, and no read of it
+-- at the side that sends: a write of address 0, or nothing
+pub of-writing : (P : Deed → Type 0) (c : Call) → P Passes → ((v : ℕ) → c ≡ Write 0 v → P (Writes v)) → P (writing c)
+of-writing P Reset p q = p
+of-writing P (Read address) p q = p
+of-writing P (Write address v) p q = each P (eqb address 0) (λ t. q v (ap (λ (k : ℕ). Write k v) (eqb-true address 0 t))) (λ t. p)
+of-writing P (SetPins dsr dcd cts) p q = p
+of-writing P Transmit p q = p
+of-writing P (Receive x) p q = p
+of-writing P Outputs p q = p
+
+-- at the side that receives: a read of address 0, or nothing
+pub of-reading : (P : Deed → Type 0) (c : Call) → P Passes → (c ≡ Read 0 → P Reads) → P (reading c)
+of-reading P Reset p q = p
+of-reading P (Read address) p q = each P (eqb address 0) (λ t. q (ap Read (eqb-true address 0 t))) (λ t. p)
+of-reading P (Write address v) p q = p
+of-reading P (SetPins dsr dcd cts) p q = p
+of-reading P Transmit p q = p
+of-reading P (Receive x) p q = p
+of-reading P Outputs p q = p
+
+-- a refused call is nothing at either
 pub refused-passes : (d : Device) (c : Call) → (refusal d c ≡ 0 → ⊥) → (writing c ≡ Passes) × (reading c ≡ Passes)
 unfolding writeRefusal
-refused-passes d Reset n = (refl, refl)
-refused-passes d (Read zero) n = absurd (n refl)
-refused-passes d (Read (suc i)) n = (refl, rw (ne-eqb (suc i) 0 (λ e. omega arith)))
-refused-passes d (Write zero v) n = absurd (n refl)
-refused-passes d (Write (suc i) v) n = (rw (ne-eqb (suc i) 0 (λ e. omega arith)), refl)
-refused-passes d (SetPins dsr dcd cts) n = (refl, refl)
-refused-passes d Transmit n = (refl, refl)
-refused-passes d (Receive x) n = (refl, refl)
-refused-passes d Outputs n = (refl, refl)
+refused-passes d c n =
+    (of-writing (λ k. k ≡ Passes) c refl (λ v e. absurd (n (ap (refusal d) e))), of-reading (λ k. k ≡ Passes) c refl (λ e. absurd (n (ap (refusal d) e))))
 
 -- == a call that changes little ==
 
@@ -145,3 +159,17 @@ module _ (d : Device) (h : inRange d ≡ true) where
 -- such a call, where it is done
 pub light-leaves : (d : Device) (c : Call) → inRange d ≡ true → refusal d c ≡ 0 → light c ≡ true → Light d c
 light-leaves d c h n l = by-call d h c n l
+
+-- == error flags ==
+
+pub same-none : {f g : Flags} → SameErrors f g → NoErrors f → NoErrors g
+same-none s n = record { framing = s .framing ∙ n .framing; overrun = s .overrun ∙ n .overrun; parity = s .parity ∙ n .parity }
+
+-- a command sets none
+pub command-sets-none : (v : ℕ) {f g : Flags} → ErrorsBy v f g → NoErrors f → NoErrors g
+command-sets-none v {f} {g} w n = go (has 4 v) refl (has 16 v) refl
+  where
+    go : (b : Bool) → has 4 v ≡ b → (c : Bool) → has 16 v ≡ c → NoErrors g
+    go false q c t = w .receive-off q
+    go true q true t = w .reset-error t
+    go true q false t = same-none (w .others q t) n

@@ -26,7 +26,7 @@ use Rattle.delivery.specs.OneWay as one-way
 use Rattle.delivery.specs.Promise.{Promised}
 use Rattle.joined_rules.specs.declared.Pair.{Pair}
 use Rattle.joined_rules.specs.Joining.{tick}
-use Rattle.joined_rules.specs.Bench.{statusBit, A, B, Step, Tick, At, wayFrom, allMoved, Bench, step, runs}
+use Rattle.joined_rules.specs.Bench.{statusBit, A, B, Step, Tick, At, wayFrom, Bench, step, runs}
 use Rattle.joined_rules.specs.Demand3.{Settings, Proper, sends, Agree, FreshlySetUp, fresh, allAllowed, Right}
 use Rattle.joined_rules.proofs.Sequence.{sequences, sequence-sets-up}
 use Rattle.joined_rules.proofs.Promised.{one-way-right, demand-3}

@@ -21,10 +21,9 @@ use Rattle.ins2651_rules.specs.declared.Pins.{Pins}
 use Rattle.ins2651_rules.specs.declared.Flags.{Flags}
 use Rattle.ins2651_rules.specs.declared.Device.{Device}
 use Rattle.ins2651_rules.specs.Modes.{has, receiveEnable, formatOf, receiveFormat}
-use Rattle.ins2651_rules.specs.Conditions.{carrier, modeSet, listening}
+use Rattle.ins2651_rules.specs.Conditions.{carrier, modeSet}
 use Rattle.ins2651_rules.specs.Ranges.{inRange, settled}
 use Rattle.ins2651_rules.specs.Refusals.{levelRefusal}
-use Rattle.ins2651_rules.specs.RegisterWrites.{stored}
 use Rattle.ins2651_rules.specs.Ticks.{noted, received, receiveTick}
 use Rattle.ins2651_rules.specs.Runs.{Call, Reset, Read, Write, SetPins, Transmit, Receive, Outputs, next}
 use Rattle.ins2651_rules.specs.Rows.{refusal}
@@ -34,12 +33,12 @@ use Rattle.ins2651_rules.proofs.Refused.{write-address, refused-unchanged}
 use Rattle.ins2651_rules.proofs.Commands.{receive-stored}
 use Rattle.ins2651_rules.proofs.ReadByHistory.{command-put}
 use Rattle.ins2651_rules.proofs.Leaves.{SameErrors, TransmitLeaves, transmit-leaves}
-use Rattle.ins2651_rules.proofs.WritesLeave.{NoErrors, ErrorsBy, CommandWritten, command-write-leaves}
+use Rattle.ins2651_rules.proofs.WritesLeave.{NoErrors, CommandWritten, command-write-leaves}
 use Rattle.ins2651_rules.proofs.InRange.{next-in}
 use Rattle.delivery.specs.OneWay.{Deed, Ticks}
 use Rattle.delivery.specs.Ends.{receiverAfter, hears, faulty, faults}
 use Rattle.joined_rules.specs.Bench.{flagged, reading, leavesReceiving, refusedOr}
-use Rattle.joined_rules.proofs.Calls.{flagged-is, refused-passes, light, pinsAfter, Light, light-leaves}
+use Rattle.joined_rules.proofs.Calls.{flagged-is, refused-passes, same-none, command-sets-none, light, pinsAfter, Light, light-leaves}
 
 -- it listens in the format g, and no error flag is set
 pub record Hearing (g : Format) (d : Device) : Type 0 where
@@ -53,19 +52,16 @@ pub record Hearing (g : Format) (d : Device) : Type 0 where
 abbrev low : Pins → Bool
 low p = eqb (p .dcd) 0
 
-same-none : {x y : Flags} → SameErrors x y → NoErrors x → NoErrors y
-same-none s n = record { framing = s .framing ∙ n .framing; overrun = s .overrun ∙ n .overrun; parity = s .parity ∙ n .parity }
-
 -- the same modes, a command that leaves receive on, DCD low, and no flag
-still : {g : Format} (d e : Device) → Hearing g d → inRange e ≡ true → e .registers .mode1 ≡ d .registers .mode1 → e .registers .mode2 ≡ d .registers .mode2
+hears-still : {g : Format} (d e : Device) → Hearing g d → inRange e ≡ true → e .registers .mode1 ≡ d .registers .mode1 → e .registers .mode2 ≡ d .registers .mode2
     → e .registers .accepted ≡ d .registers .accepted → receiveEnable (e .registers .command) ≡ true → carrier e ≡ true → NoErrors (e .flags) → Hearing g e
-still d e h i m n a t c z =
+hears-still d e h i m n a t c z =
     record { within = i; enabled = t; carried = c; set = ap on a ∙ h .set; format = ap₂ (λ (x y : ℕ). formatOf x (has 16 y)) m n ∙ h .format; no-errors = z }
 
 -- all registers and pins
-same : {g : Format} (d e : Device) → Hearing g d → inRange e ≡ true → e .registers ≡ d .registers → e .pins ≡ d .pins → NoErrors (e .flags) → Hearing g e
-same d e h i r p z =
-    still d e h i (ap (λ (q : Registers). q .mode1) r) (ap (λ (q : Registers). q .mode2) r) (ap (λ (q : Registers). q .accepted) r)
+hears-same : {g : Format} (d e : Device) → Hearing g d → inRange e ≡ true → e .registers ≡ d .registers → e .pins ≡ d .pins → NoErrors (e .flags) → Hearing g e
+hears-same d e h i r p z =
+    hears-still d e h i (ap (λ (q : Registers). q .mode1) r) (ap (λ (q : Registers). q .mode2) r) (ap (λ (q : Registers). q .accepted) r)
     (ap (λ (q : Registers). receiveEnable (q .command)) r ∙ h .enabled) (ap low p ∙ h .carried) z
 
 -- == what the bench sees ==
@@ -90,10 +86,10 @@ pub record HearsOn (g : Format) (e : Device) (r : ReceiverHalf) : Type 0 where
   pub half : e .receiver ≡ r
 
 -- a transmit tick leaves it alone
-sent-on : {g : Format} (d : Device) → Hearing g d → HearsOn g (next d Transmit) (d .receiver)
-sent-on d h =
+hears-through : {g : Format} (d : Device) → Hearing g d → HearsOn g (next d Transmit) (d .receiver)
+hears-through d h =
     let w : TransmitLeaves d (next d Transmit) = subst (λ (k : Device). TransmitLeaves k (next d Transmit)) (settled-is d (h .within)) (transmit-leaves d) in
-    record { ready = same d (next d Transmit) h (next-in d Transmit (h .within)) (w .registers) (w .pins) (same-none (w .errors) (h .no-errors)); half = w .receiver }
+    record { ready = hears-same d (next d Transmit) h (next-in d Transmit (h .within)) (w .registers) (w .pins) (same-none (w .errors) (h .no-errors)); half = w .receiver }
 
 -- an arrival with no fault, into a register that was read, sets no flag
 noted-same : (f : Flags) (o : Bool) (k : Heard) → (o || arrives faulty k) ≡ false → SameErrors f (noted f o k)
@@ -108,76 +104,68 @@ heard-half : {g : Format} (d : Device) (x : ℕ) → Hearing g d → levelRefusa
 unfolding receiveTick
 heard-half d x h n = ap (λ (k : Device). k .receiver) (does-receive d (h .within) x n) ∙ ap (λ (o : Received). o .half) (received-is d (on x) h)
 
-heard-on : {g : Format} (d : Device) (x : ℕ) → Hearing g d → levelRefusal x ≡ 0 → faults g (on x) Ticks (d .receiver) ≡ false → Hearing g (next d (Receive x))
+heard-ready : {g : Format} (d : Device) (x : ℕ) → Hearing g d → levelRefusal x ≡ 0 → faults g (on x) Ticks (d .receiver) ≡ false → Hearing g (next d (Receive x))
 unfolding receiveTick
-heard-on d x h n q =
+heard-ready d x h n q =
     let is : next d (Receive x) ≡ receiveTick d (on x) = does-receive d (h .within) x n in
     let fine = ap (λ (o : Received). o .overrun || arrives faulty (o .heard)) (received-is d (on x) h) ∙ q in
-    same d (next d (Receive x)) h (next-in d (Receive x) (h .within)) (ap (λ (k : Device). k .registers) is) (ap (λ (k : Device). k .pins) is)
+    hears-same d (next d (Receive x)) h (next-in d (Receive x) (h .within)) (ap (λ (k : Device). k .registers) is) (ap (λ (k : Device). k .pins) is)
     (subst (λ (k : Device). NoErrors (k .flags)) (sym is)
     (same-none (noted-same (d .flags) (received d (on x) .overrun) (received d (on x) .heard) fine) (h .no-errors)))
 
 -- its part of a joined tick: a transmit tick of its own, then a receive tick of what the other device sends
 module _ {g : Format} (d : Device) (x : ℕ) (h : Hearing g d) (n : levelRefusal x ≡ 0) where
-  pub ticks-half : next (next d Transmit) (Receive x) .receiver ≡ hears g (on x) (d .receiver) .half
-  ticks-half =
-      let w = sent-on d h in
+  pub hears-ticked : next (next d Transmit) (Receive x) .receiver ≡ hears g (on x) (d .receiver) .half
+  hears-ticked =
+      let w = hears-through d h in
       heard-half (next d Transmit) x (w .ready) n ∙ ap (λ (r : ReceiverHalf). hears g (on x) r .half) (w .half)
 
-  pub ticks-on : faults g (on x) Ticks (d .receiver) ≡ false → Hearing g (next (next d Transmit) (Receive x))
-  ticks-on q =
-      let w = sent-on d h in
-      heard-on (next d Transmit) x (w .ready) n (ap (λ (r : ReceiverHalf). faults g (on x) Ticks r) (w .half) ∙ q)
+  pub ticked-ready : faults g (on x) Ticks (d .receiver) ≡ false → Hearing g (next (next d Transmit) (Receive x))
+  ticked-ready q =
+      let w = hears-through d h in
+      heard-ready (next d Transmit) x (w .ready) n (ap (λ (r : ReceiverHalf). faults g (on x) Ticks r) (w .half) ∙ q)
 
 module _ {g : Format} (d : Device) (x : Bool) (h : Hearing g d) where
   -- a call that changes little, and leaves DCD low
-  lightly : (c : Call) → refusal d c ≡ 0 → light c ≡ true → low (pinsAfter c (d .pins)) ≡ true → HearsOn g (next d c) (receiverAfter g x (reading c) (d .receiver))
-  lightly c n l dcd =
+  hears-lightly : (c : Call) → refusal d c ≡ 0 → light c ≡ true → low (pinsAfter c (d .pins)) ≡ true → HearsOn g (next d c) (receiverAfter g x (reading c) (d .receiver))
+  hears-lightly c n l dcd =
       let w : Light d c = light-leaves d c (h .within) n l in
       record {
-        ready = still d (next d c) h (next-in d c (h .within)) (w .mode1) (w .mode2) (w .accepted)
+        ready = hears-still d (next d c) h (next-in d c (h .within)) (w .mode1) (w .mode2) (w .accepted)
             (ap receiveEnable (w .command) ∙ h .enabled) (ap low (w .pins) ∙ dcd) (same-none (w .errors) (h .no-errors));
         half = w .receiver g x;
       }
 
-  -- a command finds no flag set, and sets none
-  none-after : (v : ℕ) {e : Flags} → receiveEnable v ≡ true → ErrorsBy v (d .flags) e → NoErrors e
-  none-after v {e} t w = go (has 16 v) refl
-    where
-      go : (b : Bool) → has 16 v ≡ b → NoErrors e
-      go true q = w .reset-error q
-      go false q = same-none (w .others t q) (h .no-errors)
-
   -- a command that leaves receive on
-  commanded : (v : ℕ) → refusal d (Write 3 v) ≡ 0 → receiveEnable v ≡ true → HearsOn g (next d (Write 3 v)) (d .receiver)
-  commanded v n t =
+  hears-commanded : (v : ℕ) → refusal d (Write 3 v) ≡ 0 → receiveEnable v ≡ true → HearsOn g (next d (Write 3 v)) (d .receiver)
+  hears-commanded v n t =
       let e : Device = next d (Write 3 v) in
       let w : CommandWritten v d e = subst (λ (k : Device). CommandWritten v k e) (settled-is d (h .within)) (command-write-leaves d v n) in
       record {
-        ready = still d e h (next-in d (Write 3 v) (h .within)) (w .modes .mode1) (w .modes .mode2) (w .modes .accepted)
-            (ap receiveEnable (w .command ∙ sym (command-put v)) ∙ receive-stored v ∙ t) (ap low (w .pins) ∙ h .carried) (none-after v t (w .errors));
+        ready = hears-still d e h (next-in d (Write 3 v) (h .within)) (w .modes .mode1) (w .modes .mode2) (w .modes .accepted)
+            (ap receiveEnable (w .command ∙ sym (command-put v)) ∙ receive-stored v ∙ t) (ap low (w .pins) ∙ h .carried) (command-sets-none v (w .errors) (h .no-errors));
         half = w .receiver-kept t;
       }
 
-  done-on : (c : Call) → refusal d c ≡ 0 → leavesReceiving c ≡ true → HearsOn g (next d c) (receiverAfter g x (reading c) (d .receiver))
-  done-on Reset n l = absurd (true≢false (sym l))
-  done-on (Read address) n l = lightly (Read address) n refl (h .carried)
-  done-on (Write zero v) n l = lightly (Write 0 v) n refl (h .carried)
-  done-on (Write (suc zero) v) n l = lightly (Write 1 v) n refl (h .carried)
-  done-on (Write (suc (suc zero)) v) n l = absurd (true≢false (sym l))
-  done-on (Write (suc (suc (suc zero))) v) n l = commanded v n l
-  done-on (Write (suc (suc (suc (suc i)))) v) n l = absurd (omega (arith, write-address (settled d .registers) (suc (suc (suc (suc i)))) v n))
-  done-on (SetPins dsr dcd cts) n l = lightly (SetPins dsr dcd cts) n refl l
-  done-on Transmit n l = sent-on d h
-  done-on (Receive y) n l = absurd (true≢false (sym l))
-  done-on Outputs n l = record { ready = h; half = refl }
+  hears-done : (c : Call) → refusal d c ≡ 0 → leavesReceiving c ≡ true → HearsOn g (next d c) (receiverAfter g x (reading c) (d .receiver))
+  hears-done Reset n l = absurd (true≢false (sym l))
+  hears-done (Read address) n l = hears-lightly (Read address) n refl (h .carried)
+  hears-done (Write zero v) n l = hears-lightly (Write 0 v) n refl (h .carried)
+  hears-done (Write (suc zero) v) n l = hears-lightly (Write 1 v) n refl (h .carried)
+  hears-done (Write (suc (suc zero)) v) n l = absurd (true≢false (sym l))
+  hears-done (Write (suc (suc (suc zero))) v) n l = hears-commanded v n l
+  hears-done (Write (suc (suc (suc (suc i)))) v) n l = absurd (omega (arith, write-address (settled d .registers) (suc (suc (suc (suc i)))) v n))
+  hears-done (SetPins dsr dcd cts) n l = hears-lightly (SetPins dsr dcd cts) n refl l
+  hears-done Transmit n l = hears-through d h
+  hears-done (Receive y) n l = absurd (true≢false (sym l))
+  hears-done Outputs n l = record { ready = h; half = refl }
 
   -- a call that leaves alone what receiving rests on, or is refused
-  pub calls-on : (c : Call) → refusedOr leavesReceiving d c ≡ true → HearsOn g (next d c) (receiverAfter g x (reading c) (d .receiver))
-  calls-on c a = go (eqb (refusal d c) 0) refl
+  pub hears-called : (c : Call) → refusedOr leavesReceiving d c ≡ true → HearsOn g (next d c) (receiverAfter g x (reading c) (d .receiver))
+  hears-called c a = go (eqb (refusal d c) 0) refl
     where
       go : (b : Bool) → eqb (refusal d c) 0 ≡ b → HearsOn g (next d c) (receiverAfter g x (reading c) (d .receiver))
-      go true e = done-on c (eqb-true _ _ e) (rw e at a)
+      go true e = hears-done c (eqb-true _ _ e) (rw e at a)
       go false e =
           let n : refusal d c ≡ 0 → ⊥ = eqb-false _ _ e in
           let is : next d c ≡ d = refused-unchanged d c n .device in

@@ -1,27 +1,26 @@
 -- Demand 3 holds, for one way by itself and for both at once: after every list of allowed steps from a fresh set-up.
 -- The chip is an end of either kind, so that delivery from end to end is delivery between devices.
 -- Assumes nothing.
-use Prim.Native.Nat.{ℕ, zero, suc, _<_}
+use Prim.Native.Nat.{ℕ, zero, suc}
 use native.Mathlib.Omega.{arith}
 use mathlib.Core.Path.{_≡_, refl, ap, ap₂, sym, subst, _∙_}
-use mathlib.Core.Bool.{Bool, true, false, cond, not, _&&_, _||_, true≢false}
+use mathlib.Core.Bool.{Bool, true, false, _&&_, _||_}
 use mathlib.Core.List.{List, [], _∷_, _++_}
 use lib.ListN.{replicate}
-use lib.Dec.{ltb, eqb}
+use lib.Dec.{eqb}
 use borrow.Author.Tests.{ne-eqb}
 use Rattle.line_rules.specs.declared.Format.{Format}
-use Rattle.line_rules.specs.Sending.{on, frameLength}
+use Rattle.line_rules.specs.Sending.{frameLength}
 use Rattle.line_rules.specs.Receiving.{searching, sample}
 use Rattle.line_rules.specs.Sees.{Alike}
 use Rattle.line_rules.proofs.Ranges.{in-range-bounds}
 use Rattle.line_rules.proofs.Table.{both}
-use Rattle.line_rules.proofs.Choice.{either, all, neither}
+use Rattle.line_rules.proofs.Choice.{all, neither}
 use Rattle.link_rules.specs.declared.SenderHalf.{SenderHalf}
 use Rattle.link_rules.specs.declared.ReceiverHalf.{ReceiverHalf}
 use Rattle.link_rules.specs.Parts.{idleSender, idleReceiver}
 use Rattle.link_rules.specs.Transmitting as link-transmitting
 use Rattle.link_rules.specs.Hearing as link-hearing
-use Rattle.link_rules.proofs.Halves.{Tuned}
 use Rattle.ins2651_rules.specs.declared.Device.{Device}
 use Rattle.ins2651_rules.specs.Modes.{has, sendFormat, receiveFormat, receiveEnable}
 use Rattle.ins2651_rules.specs.Conditions.{transmitEnabled, clearToSend, modeSet, carrier}
@@ -30,8 +29,7 @@ use Rattle.ins2651_rules.specs.Refusals.{writeRefusal}
 use Rattle.ins2651_rules.specs.Runs.{Call, Reset, Read, Write, SetPins, Transmit, Receive, Outputs}
 use Rattle.ins2651_rules.specs.Rows.{refusal}
 use Rattle.ins2651_rules.proofs.Formats.{format-in}
-use Rattle.delivery.specs.Log.{Way}
-use Rattle.delivery.specs.OneWay.{Deed, Ticks, Writes, Reads, Passes, later, inTime, Logged, begun, permits}
+use Rattle.delivery.specs.OneWay.{Deed, Ticks, later, Logged, begun, permits}
 use Rattle.delivery.specs.OneWay as one-way
 use Rattle.delivery.specs.Promise.{Promised}
 use Rattle.delivery.specs.Ends.{senderAfter, receiverAfter, faults, hears, Begins}
@@ -39,9 +37,10 @@ use Rattle.delivery.proofs.Delivery.{Fit, Idles}
 use Rattle.delivery.proofs.Carried.{way-delivers, way-idles}
 use Rattle.joined_rules.specs.declared.Pair.{Pair}
 use Rattle.joined_rules.specs.Joining.{tick, ticks}
-use Rattle.joined_rules.specs.Bench.{mayWrite, unread, flagged, statusBit, Side, A, B, other, deviceAt, Step, Tick, At, moved, allMoved, writing, reading, leavesSending, leavesReceiving, refusedOr, deedFrom, steadyFrom, wayFrom, Bench, clock, step, runs}
+use Rattle.joined_rules.specs.Bench.{unread, flagged, statusBit, Side, A, B, other, deviceAt, Step, Tick, At, allMoved, writing, reading, leavesSending, leavesReceiving, refusedOr, deedFrom, steadyFrom, wayFrom, Bench, clock, step, runs}
 use Rattle.joined_rules.specs.Demand3.{Settings, settingsAt, Proper, sends, receives, Agree, FromReset, Holds, FreshlySetUp, fresh, harmless, allowedCall, allowed, allAllowed, NoFlag, Right, Seen, Open}
-use Rattle.joined_rules.proofs.Sending.{Sending, SendsOn, level-is}
+use Rattle.joined_rules.proofs.Calls.{of-writing, of-reading}
+use Rattle.joined_rules.proofs.Sending.{Sending, level-is}
 use Rattle.joined_rules.proofs.Hearing.{Hearing}
 use Rattle.joined_rules.proofs.SetUps.{Untouched, set-up-untouched, starts, no-break, listens, sends-so, receives-so}
 use Rattle.joined_rules.proofs.Ways.{side-sends, side-receives}
@@ -162,22 +161,10 @@ seenFrom B w = record { bench = w .pair; now = w .now; log = w .back }
 
 -- a call takes no time
 writing-now : (now : ℕ) (c : Call) → later now (writing c) ≡ now
-writing-now now Reset = refl
-writing-now now (Read address) = refl
-writing-now now (Write address v) = either (λ (k : Deed). later now k ≡ now) (eqb address 0) refl refl
-writing-now now (SetPins dsr dcd cts) = refl
-writing-now now Transmit = refl
-writing-now now (Receive x) = refl
-writing-now now Outputs = refl
+writing-now now c = of-writing (λ k. later now k ≡ now) c refl (λ v e. refl)
 
 reading-now : (now : ℕ) (c : Call) → later now (reading c) ≡ now
-reading-now now Reset = refl
-reading-now now (Read address) = either (λ (k : Deed). later now k ≡ now) (eqb address 0) refl refl
-reading-now now (Write address v) = refl
-reading-now now (SetPins dsr dcd cts) = refl
-reading-now now Transmit = refl
-reading-now now (Receive x) = refl
-reading-now now Outputs = refl
+reading-now now c = of-reading (λ k. later now k ≡ now) c refl (λ e. refl)
 
 time-is : (s : Side) (now : ℕ) (x : Step) → later now (deedFrom s x) ≡ clock now x
 time-is A now Tick = refl
@@ -205,48 +192,27 @@ weaker p q d c h a = go (eqb (refusal d c) 0) refl
     go true e = rw e (h (rw e at a))
     go false e = rw e
 
-module _ (d : Device) where
-  harmless-sends : (c : Call) → harmless d c ≡ true → leavesSending c ≡ true
-  harmless-sends Reset h = h
-  harmless-sends (Read address) h = refl
-  harmless-sends (Write zero v) h = refl
-  harmless-sends (Write (suc i) v) h = rw (ne-eqb (suc i) 0 (λ e. omega arith)) (rw (rw (ne-eqb (suc i) 0 (λ e. omega arith)) at h))
-  harmless-sends (SetPins dsr dcd cts) h = both (eqb dsr 0 && eqb dcd 0) (eqb cts 0) h .1
-  harmless-sends Transmit h = h
-  harmless-sends (Receive x) h = refl
-  harmless-sends Outputs h = refl
-
-  harmless-receives : (c : Call) → harmless d c ≡ true → leavesReceiving c ≡ true
-  harmless-receives Reset h = h
-  harmless-receives (Read address) h = refl
-  harmless-receives (Write zero v) h = refl
-  harmless-receives (Write (suc i) v) h = rw (ne-eqb (suc i) 0 (λ e. omega arith)) (rw (rw (ne-eqb (suc i) 0 (λ e. omega arith)) at h))
-  harmless-receives (SetPins dsr dcd cts) h = both (eqb dsr 0) (eqb dcd 0) (both (eqb dsr 0 && eqb dcd 0) (eqb cts 0) h .0) .1
-  harmless-receives Transmit h = refl
-  harmless-receives (Receive x) h = h
-  harmless-receives Outputs h = refl
+-- what is allowed both ways leaves alone what either way rests on
+harmless-leaves : (d : Device) (c : Call) → harmless d c ≡ true → (leavesSending c ≡ true) × (leavesReceiving c ≡ true)
+harmless-leaves d Reset h = (h, h)
+harmless-leaves d (Read address) h = (refl, refl)
+harmless-leaves d (Write zero v) h = (refl, refl)
+harmless-leaves d (Write (suc i) v) h =
+    let z : eqb (suc i) 0 ≡ false = ne-eqb (suc i) 0 (λ e. omega arith) in
+    rw z (rw (rw z at h) (refl, refl))
+harmless-leaves d (SetPins dsr dcd cts) h = let t = both (eqb dsr 0 && eqb dcd 0) (eqb cts 0) h in (t .1, both (eqb dsr 0) (eqb dcd 0) (t .0) .1)
+harmless-leaves d Transmit h = (h, refl)
+harmless-leaves d (Receive x) h = (refl, h)
+harmless-leaves d Outputs h = (refl, refl)
 
 -- a character is written only when it may be
 may-be-written : (L : ℕ) (w : Logged Pair) (s : Side) (c : Call) → allowedCall (deviceAt s (w .bench)) c ≡ true → permits (wayFrom s) L w (writing c) ≡ true
 unfolding writeRefusal
-may-be-written L w s Reset a = refl
-may-be-written L w s (Read address) a = refl
-may-be-written L w s (Write zero v) a = a
-may-be-written L w s (Write (suc i) v) a = rw (ne-eqb (suc i) 0 (λ e. omega arith))
-may-be-written L w s (SetPins dsr dcd cts) a = refl
-may-be-written L w s Transmit a = refl
-may-be-written L w s (Receive x) a = refl
-may-be-written L w s Outputs a = refl
+may-be-written L w s c a = of-writing (λ k. permits (wayFrom s) L w k ≡ true) c refl (λ v e. ap (allowedCall (deviceAt s (w .bench))) (sym e) ∙ a)
 
 -- a call at the other side is always permitted
 may-be-read : (L : ℕ) (w : Logged Pair) (s : Side) (c : Call) → permits (wayFrom s) L w (reading c) ≡ true
-may-be-read L w s Reset = refl
-may-be-read L w s (Read address) = either (λ (k : Deed). permits (wayFrom s) L w k ≡ true) (eqb address 0) refl refl
-may-be-read L w s (Write address v) = refl
-may-be-read L w s (SetPins dsr dcd cts) = refl
-may-be-read L w s Transmit = refl
-may-be-read L w s (Receive x) = refl
-may-be-read L w s Outputs = refl
+may-be-read L w s c = of-reading (λ k. permits (wayFrom s) L w k ≡ true) c refl (λ e. refl)
 
 module _ (a b : Settings) where
   abbrev L : Side → ℕ
@@ -259,13 +225,13 @@ module _ (a b : Settings) where
   each-way A w Tick h = both (in-time A w) (in-time B w) h .0
   each-way B w Tick h = both (in-time A w) (in-time B w) h .1
   each-way A w (At A c) h =
-      all (weaker (harmless (w .pair .a)) leavesSending (w .pair .a) c (harmless-sends (w .pair .a) c) h) (may-be-written (L A) (seenFrom A w) A c h)
+      all (weaker (harmless (w .pair .a)) leavesSending (w .pair .a) c (λ t. harmless-leaves (w .pair .a) c t .0) h) (may-be-written (L A) (seenFrom A w) A c h)
   each-way A w (At B c) h =
-      all (weaker (harmless (w .pair .b)) leavesReceiving (w .pair .b) c (harmless-receives (w .pair .b) c) h) (may-be-read (L A) (seenFrom A w) A c)
+      all (weaker (harmless (w .pair .b)) leavesReceiving (w .pair .b) c (λ t. harmless-leaves (w .pair .b) c t .1) h) (may-be-read (L A) (seenFrom A w) A c)
   each-way B w (At A c) h =
-      all (weaker (harmless (w .pair .a)) leavesReceiving (w .pair .a) c (harmless-receives (w .pair .a) c) h) (may-be-read (L B) (seenFrom B w) B c)
+      all (weaker (harmless (w .pair .a)) leavesReceiving (w .pair .a) c (λ t. harmless-leaves (w .pair .a) c t .1) h) (may-be-read (L B) (seenFrom B w) B c)
   each-way B w (At B c) h =
-      all (weaker (harmless (w .pair .b)) leavesSending (w .pair .b) c (harmless-sends (w .pair .b) c) h) (may-be-written (L B) (seenFrom B w) B c h)
+      all (weaker (harmless (w .pair .b)) leavesSending (w .pair .b) c (λ t. harmless-leaves (w .pair .b) c t .0) h) (may-be-written (L B) (seenFrom B w) B c h)
 
   all-each-way : (s : Side) (w : Bench) (ss : List Step) → allAllowed a b w ss ≡ true → one-way.allAllowed (wayFrom s) (L s) (seenFrom s w) ss ≡ true
   all-each-way s w [] h = refl

@@ -8,7 +8,7 @@ use mathlib.Core.Bool.{Bool, true, false, not, _&&_, true≢false}
 use lib.Dec.{eqb}
 use borrow.Author.Tests.{eqb-true, eqb-false}
 use Rattle.line_rules.specs.declared.Format.{Format}
-use Rattle.line_rules.specs.Sending.{bit, on}
+use Rattle.line_rules.specs.Sending.{on}
 use Rattle.line_rules.proofs.Bits.{on-bit}
 use Rattle.line_rules.proofs.Choice.{all, not-so}
 use Rattle.line_rules.proofs.Table.{both}
@@ -19,7 +19,7 @@ use Rattle.ins2651_rules.specs.declared.Registers.{Registers}
 use Rattle.ins2651_rules.specs.declared.Pins.{Pins}
 use Rattle.ins2651_rules.specs.declared.Device.{Device}
 use Rattle.ins2651_rules.specs.Modes.{has, transmitEnable, forceBreak, formatOf, sendFormat}
-use Rattle.ins2651_rules.specs.Conditions.{transmitEnabled, clearToSend, modeSet, mayStart, breakOn, vacant}
+use Rattle.ins2651_rules.specs.Conditions.{transmitEnabled, clearToSend, modeSet, breakOn, vacant}
 use Rattle.ins2651_rules.specs.Ranges.{inRange, settled}
 use Rattle.ins2651_rules.specs.Refusals.{levelRefusal}
 use Rattle.ins2651_rules.specs.RegisterWrites.{stored}
@@ -31,7 +31,7 @@ use Rattle.ins2651_rules.proofs.Done.{does-transmit}
 use Rattle.ins2651_rules.proofs.Refused.{write-address, refused-unchanged}
 use Rattle.ins2651_rules.proofs.Commands.{transmit-stored}
 use Rattle.ins2651_rules.proofs.ReadByHistory.{command-put}
-use Rattle.ins2651_rules.proofs.Leaves.{ReceiveLeaves, transmit-leaves, receive-leaves}
+use Rattle.ins2651_rules.proofs.Leaves.{ReceiveLeaves, receive-leaves}
 use Rattle.ins2651_rules.proofs.WritesLeave.{CommandWritten, command-write-leaves}
 use Rattle.ins2651_rules.proofs.InRange.{next-in}
 use Rattle.delivery.specs.OneWay.{Deed}
@@ -52,15 +52,15 @@ abbrev low : Pins → Bool
 low p = eqb (p .cts) 0
 
 -- the same modes, a command that leaves transmit on and break off, and CTS low
-still : {f : Format} (d e : Device) → Sending f d → inRange e ≡ true → e .registers .mode1 ≡ d .registers .mode1 → e .registers .mode2 ≡ d .registers .mode2
+sends-still : {f : Format} (d e : Device) → Sending f d → inRange e ≡ true → e .registers .mode1 ≡ d .registers .mode1 → e .registers .mode2 ≡ d .registers .mode2
     → e .registers .accepted ≡ d .registers .accepted → transmitEnabled e ≡ true → breakOn e ≡ false → clearToSend e ≡ true → Sending f e
-still d e h i m n a t b c =
+sends-still d e h i m n a t b c =
     record { within = i; enabled = t; clear = c; set = ap on a ∙ h .set; no-break = b; format = ap₂ (λ (x y : ℕ). formatOf x (has 32 y)) m n ∙ h .format }
 
 -- all registers and pins
-same : {f : Format} (d e : Device) → Sending f d → inRange e ≡ true → e .registers ≡ d .registers → e .pins ≡ d .pins → Sending f e
-same d e h i r p =
-    still d e h i (ap (λ (q : Registers). q .mode1) r) (ap (λ (q : Registers). q .mode2) r) (ap (λ (q : Registers). q .accepted) r)
+sends-same : {f : Format} (d e : Device) → Sending f d → inRange e ≡ true → e .registers ≡ d .registers → e .pins ≡ d .pins → Sending f e
+sends-same d e h i r p =
+    sends-still d e h i (ap (λ (q : Registers). q .mode1) r) (ap (λ (q : Registers). q .mode2) r) (ap (λ (q : Registers). q .accepted) r)
     (ap (λ (q : Registers). transmitEnable (q .command)) r ∙ h .enabled) (ap (λ (q : Registers). forceBreak (q .command)) r ∙ h .no-break)
     (ap low p ∙ h .clear)
 
@@ -88,65 +88,65 @@ pub record SendsOn (f : Format) (e : Device) (s : SenderHalf) : Type 0 where
   pub half : e .sender ≡ s
 
 -- a receive tick of any level leaves it alone
-heard-on : {f : Format} (d : Device) (x : ℕ) → Sending f d → refusal d (Receive x) ≡ 0 → SendsOn f (next d (Receive x)) (d .sender)
-heard-on {f = f} d x h n =
+sends-through : {f : Format} (d : Device) (x : ℕ) → Sending f d → refusal d (Receive x) ≡ 0 → SendsOn f (next d (Receive x)) (d .sender)
+sends-through {f = f} d x h n =
     let w : ReceiveLeaves d (next d (Receive x)) = subst (λ (k : Device). ReceiveLeaves k (next d (Receive x))) (settled-is d (h .within)) (receive-leaves d x n) in
-    record { ready = same d (next d (Receive x)) h (next-in d (Receive x) (h .within)) (w .registers) (w .pins); half = w .sender }
+    record { ready = sends-same d (next d (Receive x)) h (next-in d (Receive x) (h .within)) (w .registers) (w .pins); half = w .sender }
 
 -- its part of a joined tick: a transmit tick, then a receive tick of whatever the other device sends
-pub ticks-on : {f : Format} (d : Device) (x : ℕ) → Sending f d → levelRefusal x ≡ 0
+pub sends-ticked : {f : Format} (d : Device) (x : ℕ) → Sending f d → levelRefusal x ≡ 0
     → SendsOn f (next (next d Transmit) (Receive x)) (link-transmitting.transmit (d .sender) true false f .half)
 unfolding transmitTick
-ticks-on {f = f} d x h n =
+sends-ticked {f = f} d x h n =
     let e : Device = next d Transmit in
     let is : e ≡ transmitTick d .device = ap (λ o. o .device) (does-transmit d (h .within)) in
-    let r : Sending f e = same d e h (next-in d Transmit (h .within)) (ap (λ (k : Device). k .registers) is) (ap (λ (k : Device). k .pins) is) in
-    let w = heard-on e x r n in
+    let r : Sending f e = sends-same d e h (next-in d Transmit (h .within)) (ap (λ (k : Device). k .registers) is) (ap (λ (k : Device). k .pins) is) in
+    let w = sends-through e x r n in
     record { ready = w .ready; half = w .half ∙ ap (λ (k : Device). k .sender) is ∙ ap (λ (o : Sent). o .half) (sent-is d h) }
 
 module _ {f : Format} (d : Device) (h : Sending f d) where
   -- a call that changes little, and leaves CTS low
-  lightly : (c : Call) → refusal d c ≡ 0 → light c ≡ true → eqb (pinsAfter c (d .pins) .cts) 0 ≡ true → SendsOn f (next d c) (senderAfter f (writing c) (d .sender))
-  lightly c n l cts =
+  sends-lightly : (c : Call) → refusal d c ≡ 0 → light c ≡ true → eqb (pinsAfter c (d .pins) .cts) 0 ≡ true → SendsOn f (next d c) (senderAfter f (writing c) (d .sender))
+  sends-lightly c n l cts =
       let w : Light d c = light-leaves d c (h .within) n l in
       record {
-        ready = still d (next d c) h (next-in d c (h .within)) (w .mode1) (w .mode2) (w .accepted)
+        ready = sends-still d (next d c) h (next-in d c (h .within)) (w .mode1) (w .mode2) (w .accepted)
             (ap transmitEnable (w .command) ∙ h .enabled) (ap forceBreak (w .command) ∙ h .no-break) (ap low (w .pins) ∙ cts);
         half = w .sender f;
       }
 
   -- a command that leaves transmit on and break off
-  commanded : (v : ℕ) → refusal d (Write 3 v) ≡ 0 → transmitEnable v ≡ true → forceBreak v ≡ false → SendsOn f (next d (Write 3 v)) (d .sender)
-  commanded v n t b =
+  sends-commanded : (v : ℕ) → refusal d (Write 3 v) ≡ 0 → transmitEnable v ≡ true → forceBreak v ≡ false → SendsOn f (next d (Write 3 v)) (d .sender)
+  sends-commanded v n t b =
       let e : Device = next d (Write 3 v) in
       let w : CommandWritten v d e = subst (λ (k : Device). CommandWritten v k e) (settled-is d (h .within)) (command-write-leaves d v n) in
       let is : e .registers .command ≡ stored v = w .command ∙ sym (command-put v) in
       let kept : stored v / 8 % 2 ≡ v / 8 % 2 = omega arith in
       record {
-        ready = still d e h (next-in d (Write 3 v) (h .within)) (w .modes .mode1) (w .modes .mode2) (w .modes .accepted)
+        ready = sends-still d e h (next-in d (Write 3 v) (h .within)) (w .modes .mode1) (w .modes .mode2) (w .modes .accepted)
             (ap transmitEnable is ∙ transmit-stored v ∙ t) (ap forceBreak is ∙ ap (λ (k : ℕ). eqb k 1) kept ∙ b) (ap low (w .pins) ∙ h .clear);
         half = w .sender;
       }
 
-  done-on : (c : Call) → refusal d c ≡ 0 → leavesSending c ≡ true → SendsOn f (next d c) (senderAfter f (writing c) (d .sender))
-  done-on Reset n l = absurd (true≢false (sym l))
-  done-on (Read address) n l = lightly (Read address) n refl (h .clear)
-  done-on (Write zero v) n l = lightly (Write 0 v) n refl (h .clear)
-  done-on (Write (suc zero) v) n l = lightly (Write 1 v) n refl (h .clear)
-  done-on (Write (suc (suc zero)) v) n l = absurd (true≢false (sym l))
-  done-on (Write (suc (suc (suc zero))) v) n l = let t = both (transmitEnable v) (not (forceBreak v)) l in commanded v n (t .0) (not-so (forceBreak v) (t .1))
-  done-on (Write (suc (suc (suc (suc i)))) v) n l = absurd (omega (arith, write-address (settled d .registers) (suc (suc (suc (suc i)))) v n))
-  done-on (SetPins dsr dcd cts) n l = lightly (SetPins dsr dcd cts) n refl l
-  done-on Transmit n l = absurd (true≢false (sym l))
-  done-on (Receive x) n l = heard-on d x h n
-  done-on Outputs n l = record { ready = h; half = refl }
+  sends-done : (c : Call) → refusal d c ≡ 0 → leavesSending c ≡ true → SendsOn f (next d c) (senderAfter f (writing c) (d .sender))
+  sends-done Reset n l = absurd (true≢false (sym l))
+  sends-done (Read address) n l = sends-lightly (Read address) n refl (h .clear)
+  sends-done (Write zero v) n l = sends-lightly (Write 0 v) n refl (h .clear)
+  sends-done (Write (suc zero) v) n l = sends-lightly (Write 1 v) n refl (h .clear)
+  sends-done (Write (suc (suc zero)) v) n l = absurd (true≢false (sym l))
+  sends-done (Write (suc (suc (suc zero))) v) n l = let t = both (transmitEnable v) (not (forceBreak v)) l in sends-commanded v n (t .0) (not-so (forceBreak v) (t .1))
+  sends-done (Write (suc (suc (suc (suc i)))) v) n l = absurd (omega (arith, write-address (settled d .registers) (suc (suc (suc (suc i)))) v n))
+  sends-done (SetPins dsr dcd cts) n l = sends-lightly (SetPins dsr dcd cts) n refl l
+  sends-done Transmit n l = absurd (true≢false (sym l))
+  sends-done (Receive x) n l = sends-through d x h n
+  sends-done Outputs n l = record { ready = h; half = refl }
 
   -- a call that leaves alone what sending rests on, or is refused
-  pub calls-on : (c : Call) → refusedOr leavesSending d c ≡ true → SendsOn f (next d c) (senderAfter f (writing c) (d .sender))
-  calls-on c a = go (eqb (refusal d c) 0) refl
+  pub sends-called : (c : Call) → refusedOr leavesSending d c ≡ true → SendsOn f (next d c) (senderAfter f (writing c) (d .sender))
+  sends-called c a = go (eqb (refusal d c) 0) refl
     where
       go : (b : Bool) → eqb (refusal d c) 0 ≡ b → SendsOn f (next d c) (senderAfter f (writing c) (d .sender))
-      go true e = done-on c (eqb-true _ _ e) (rw e at a)
+      go true e = sends-done c (eqb-true _ _ e) (rw e at a)
       go false e =
           let n : refusal d c ≡ 0 → ⊥ = eqb-false _ _ e in
           let is : next d c ≡ d = refused-unchanged d c n .device in

@@ -4,31 +4,27 @@
 use Prim.Native.Nat.{ℕ, zero, suc, _/_, _%_}
 use native.Mathlib.Omega.{arith}
 use mathlib.Core.Path.{_≡_, refl, sym, ap, ap₂, subst, _∙_}
-use mathlib.Core.Bool.{Bool, true, false, cond, not, _&&_, _||_, true≢false}
+use mathlib.Core.Bool.{Bool, true, false, _||_, true≢false}
 use mathlib.Core.List.{List, [], _∷_, _++_}
 use lib.Dec.{eqb}
 use borrow.Author.Tests.{eqb-true, eqb-false}
-use Rattle.line_rules.specs.declared.Format.{Format}
 use Rattle.line_rules.specs.Sending.{on}
-use Rattle.line_rules.proofs.Choice.{either, all, not-so}
+use Rattle.line_rules.proofs.Choice.{all}
 use Rattle.line_rules.proofs.Table.{both}
-use Rattle.link_rules.specs.declared.SenderHalf.{SenderHalf}
 use Rattle.link_rules.specs.declared.ReceiverHalf.{ReceiverHalf}
 use Rattle.link_rules.specs.Parts.{noFormat, idleSender, idleReceiver, dropped, emptied}
-use Rattle.ins2651_rules.specs.declared.Flags.{Flags}
 use Rattle.ins2651_rules.specs.declared.Device.{Device}
 use Rattle.ins2651_rules.specs.Shape.{resetDevice}
-use Rattle.ins2651_rules.specs.Modes.{has, receiveEnable, formatOf, sendFormat, receiveFormat}
-use Rattle.ins2651_rules.specs.Conditions.{transmitEnabled, clearToSend, modeSet, mayStart, breakOn, carrier, listening}
-use Rattle.ins2651_rules.specs.Ranges.{mode1InRange, registersInRange, inRange, settled}
+use Rattle.ins2651_rules.specs.Modes.{has, formatOf, sendFormat, receiveFormat}
+use Rattle.ins2651_rules.specs.Conditions.{modeSet, mayStart, breakOn, listening}
+use Rattle.ins2651_rules.specs.Ranges.{mode1InRange, inRange, settled}
 use Rattle.ins2651_rules.specs.Refusals.{writeRefusal}
 use Rattle.ins2651_rules.specs.RegisterWrites.{stored}
-use Rattle.ins2651_rules.specs.Runs.{Call, Reset, Read, Write, SetPins, Transmit, Receive, Outputs, next, after}
+use Rattle.ins2651_rules.specs.Runs.{Call, Reset, Read, Write, SetPins, Transmit, Receive, Outputs, next}
 use Rattle.ins2651_rules.specs.Rows.{refusal}
 use Rattle.ins2651_rules.proofs.Settled.{settled-is, reset-in}
 use Rattle.ins2651_rules.proofs.Refused.{write-address, refused-unchanged}
 use Rattle.ins2651_rules.proofs.Commands.{transmit-stored, receive-stored}
-use Rattle.ins2651_rules.proofs.Leaves.{SameErrors}
 use Rattle.ins2651_rules.proofs.WritesLeave.{NoErrors, ModeWritten, mode-write-leaves, CommandWritten, command-write-leaves}
 use Rattle.ins2651_rules.proofs.Rules.{off-command-drops}
 use Rattle.ins2651_rules.proofs.InRange.{parts, next-in}
@@ -36,8 +32,8 @@ use Rattle.delivery.specs.OneWay.{Deed, Ticks, Writes, Reads, Passes, putting, 
 use Rattle.delivery.specs.Ends.{senderAfter, receiverAfter}
 use Rattle.joined_rules.specs.declared.Pair.{Pair}
 use Rattle.joined_rules.specs.Bench.{unread, Side, A, B, other, deviceAt, Step, Tick, At, moved, allMoved, writing, reading, deedFrom, wayFrom}
-use Rattle.joined_rules.specs.Demand3.{Settings, Proper, sends, receives, isReset, setsUp, allSetUp, resets, FromReset, Holds}
-use Rattle.joined_rules.proofs.Calls.{unread-is, light, Light, light-leaves}
+use Rattle.joined_rules.specs.Demand3.{Settings, Proper, sends, receives, isReset, setsUp, allSetUp, resets, Holds}
+use Rattle.joined_rules.proofs.Calls.{unread-is, of-writing, of-reading, same-none, command-sets-none, light, Light, light-leaves}
 
 -- == nothing sent, nothing heard ==
 
@@ -52,9 +48,6 @@ reset-untouched = record { within = reset-in; sender = refl; receiver = refl; no
 
 abbrev quiet : Call → Bool
 quiet c = setsUp (At A c)
-
-same-none : {x y : Flags} → SameErrors x y → NoErrors x → NoErrors y
-same-none s n = record { framing = s .framing ∙ n .framing; overrun = s .overrun ∙ n .overrun; parity = s .parity ∙ n .parity }
 
 module _ (d : Device) (h : Untouched d) where
   -- a call that changes little, writes nothing, and finds nothing to read; no tick is in it, so that format and level are any
@@ -83,7 +76,7 @@ module _ (d : Device) (h : Untouched d) where
   -- a command, whatever it does to receive
   commanded : (v : ℕ) → refusal d (Write 3 v) ≡ 0 → Untouched (next d (Write 3 v))
   unfolding writeRefusal
-  commanded v n = record { within = next-in d (Write 3 v) (h .within); sender = w .sender ∙ h .sender; receiver = received (has 4 v) refl; no-errors = none (has 4 v) refl (has 16 v) refl }
+  commanded v n = record { within = next-in d (Write 3 v) (h .within); sender = w .sender ∙ h .sender; receiver = received (has 4 v) refl; no-errors = command-sets-none v (w .errors) (h .no-errors) }
     where
       e : Device
       e = next d (Write 3 v)
@@ -95,15 +88,10 @@ module _ (d : Device) (h : Untouched d) where
       received true q = w .receiver-kept q ∙ h .receiver
       received false q = off-command-drops d v (h .within) n q ∙ ap (λ (r : ReceiverHalf). emptied (dropped r)) (h .receiver)
 
-      none : (b : Bool) → has 4 v ≡ b → (c : Bool) → has 16 v ≡ c → NoErrors (e .flags)
-      none false q c t = w .errors .receive-off q
-      none true q true t = w .errors .reset-error t
-      none true q false t = same-none (w .errors .others q t) (h .no-errors)
-
   done-untouched : (c : Call) → refusal d c ≡ 0 → quiet c ≡ true → Untouched (next d c)
   done-untouched Reset n q = reset-untouched
   done-untouched (Read address) n q =
-      lightly (Read address) n refl refl (either (λ (k : Deed). receiverAfter noFormat true k idleReceiver ≡ idleReceiver) (eqb address 0) refl refl)
+      lightly (Read address) n refl refl (of-reading (λ k. receiverAfter noFormat true k idleReceiver ≡ idleReceiver) (Read address) refl (λ e. refl))
   done-untouched (Write zero v) n q = absurd (true≢false (sym q))
   done-untouched (Write (suc zero) v) n q = lightly (Write 1 v) n refl refl refl
   done-untouched (Write (suc (suc zero)) v) n q = moded v n
@@ -167,23 +155,11 @@ set-up-untouched B p (At B c ∷ us) q r =
 
 -- nothing is written ..
 unwritten : (c : Call) (vs : List ℕ) → quiet c ≡ true → putting (writing c) vs ≡ vs
-unwritten Reset vs q = refl
-unwritten (Read address) vs q = refl
-unwritten (Write address v) vs q = rw (not-so (eqb address 0) q)
-unwritten (SetPins dsr dcd cts) vs q = refl
-unwritten Transmit vs q = refl
-unwritten (Receive x) vs q = refl
-unwritten Outputs vs q = refl
+unwritten c vs q = of-writing (λ k. putting k vs ≡ vs) c refl (λ v e. absurd (true≢false (sym q ∙ ap quiet e)))
 
 -- .. nor by a call at the other side
 not-written : (c : Call) (vs : List ℕ) → putting (reading c) vs ≡ vs
-not-written Reset vs = refl
-not-written (Read address) vs = either (λ (k : Deed). putting k vs ≡ vs) (eqb address 0) refl refl
-not-written (Write address v) vs = refl
-not-written (SetPins dsr dcd cts) vs = refl
-not-written Transmit vs = refl
-not-written (Receive x) vs = refl
-not-written Outputs vs = refl
+not-written c vs = of-reading (λ k. putting k vs ≡ vs) c refl (λ e. refl)
 
 puts-nothing : (s : Side) (u : Step) (vs : List ℕ) → setsUp u ≡ true → putting (deedFrom s u) vs ≡ vs
 puts-nothing s Tick vs q = absurd (true≢false (sym q))

@@ -2,27 +2,22 @@
 -- Assumes nothing.
 use mathlib.Core.Path.{_≡_, refl}
 use mathlib.Core.Bool.{Bool, true, false}
-use lib.Dec.{eqb}
 use Rattle.line_rules.specs.declared.Format.{Format}
 use Rattle.line_rules.specs.Sending.{bit}
-use Rattle.line_rules.proofs.Choice.{either}
 use Rattle.link_rules.specs.declared.SenderHalf.{SenderHalf}
 use Rattle.link_rules.specs.declared.ReceiverHalf.{ReceiverHalf}
 use Rattle.ins2651_rules.specs.declared.Device.{Device}
 use Rattle.ins2651_rules.specs.Refusals.{levelRefusal}
 use Rattle.ins2651_rules.specs.Ranges.{settled}
 use Rattle.ins2651_rules.specs.Ticks.{sent, transmitTick, transmit}
-use Rattle.ins2651_rules.specs.Runs.{Call, Reset, Read, Write, SetPins, Transmit, Receive, Outputs}
-use Rattle.delivery.specs.OneWay.{Deed}
+use Rattle.ins2651_rules.specs.Runs.{Call}
 use Rattle.delivery.specs.Ends.{faults, senderAfter, receiverAfter, Sends, Receives}
 use Rattle.joined_rules.specs.declared.Pair.{Pair}
 use Rattle.joined_rules.specs.Joining.{tick}
 use Rattle.joined_rules.specs.Bench.{Side, A, B, other, deviceAt, Step, Tick, At, moved, writing, reading, deedFrom, steadyFrom, wayFrom}
-use Rattle.joined_rules.proofs.Calls.{unread-is, character-is}
-use Rattle.joined_rules.proofs.Sending.{Sending, SendsOn, vacant-is, level-is}
-use Rattle.joined_rules.proofs.Sending as sending
-use Rattle.joined_rules.proofs.Hearing.{Hearing, HearsOn, shows-no-flag}
-use Rattle.joined_rules.proofs.Hearing as hearing
+use Rattle.joined_rules.proofs.Calls.{unread-is, character-is, of-writing, of-reading}
+use Rattle.joined_rules.proofs.Sending.{Sending, SendsOn, vacant-is, level-is, sends-ticked, sends-called}
+use Rattle.joined_rules.proofs.Hearing.{Hearing, shows-no-flag, hears-ticked, ticked-ready, hears-called}
 
 -- what a device sends is a level
 is-level : (d : Device) → levelRefusal (transmit d .level) ≡ 0
@@ -35,33 +30,21 @@ is-level d = go (sent (settled d) .level)
 
 -- a call at the other end is no deed of this half: a read leaves the sending half alone ..
 read-leaves : (f : Format) (c : Call) (h : SenderHalf) → h ≡ senderAfter f (reading c) h
-read-leaves f Reset h = refl
-read-leaves f (Read address) h = either (λ (k : Deed). h ≡ senderAfter f k h) (eqb address 0) refl refl
-read-leaves f (Write address v) h = refl
-read-leaves f (SetPins dsr dcd cts) h = refl
-read-leaves f Transmit h = refl
-read-leaves f (Receive x) h = refl
-read-leaves f Outputs h = refl
+read-leaves f c h = of-reading (λ k. h ≡ senderAfter f k h) c refl (λ e. refl)
 
 -- .. and a write the receiving half
 write-leaves : (g : Format) (x : Bool) (c : Call) (h : ReceiverHalf) → h ≡ receiverAfter g x (writing c) h
-write-leaves g x Reset h = refl
-write-leaves g x (Read address) h = refl
-write-leaves g x (Write address v) h = either (λ (k : Deed). h ≡ receiverAfter g x k h) (eqb address 0) refl refl
-write-leaves g x (SetPins dsr dcd cts) h = refl
-write-leaves g x Transmit h = refl
-write-leaves g x (Receive y) h = refl
-write-leaves g x Outputs h = refl
+write-leaves g x c h = of-writing (λ k. h ≡ receiverAfter g x k h) c refl (λ v e. refl)
 
 -- == the side that sends ==
 
 sends-step : {f : Format} (s : Side) (p : Pair) (x : Step) → Sending f (deviceAt s p) → steadyFrom s p x ≡ true
     → SendsOn f (deviceAt s (moved p x)) (senderAfter f (deedFrom s x) (deviceAt s p .sender))
 unfolding tick
-sends-step A p Tick h t = sending.ticks-on (p .a) (transmit (p .b) .level) h (is-level (p .b))
-sends-step B p Tick h t = sending.ticks-on (p .b) (transmit (p .a) .level) h (is-level (p .a))
-sends-step A p (At A c) h t = sending.calls-on (p .a) h c t
-sends-step B p (At B c) h t = sending.calls-on (p .b) h c t
+sends-step A p Tick h t = sends-ticked (p .a) (transmit (p .b) .level) h (is-level (p .b))
+sends-step B p Tick h t = sends-ticked (p .b) (transmit (p .a) .level) h (is-level (p .a))
+sends-step A p (At A c) h t = sends-called (p .a) h c t
+sends-step B p (At B c) h t = sends-called (p .b) h c t
 sends-step {f = f} A p (At B c) h t = record { ready = h; half = read-leaves f c (p .a .sender) }
 sends-step {f = f} B p (At A c) h t = record { ready = h; half = read-leaves f c (p .b .sender) }
 
@@ -79,20 +62,20 @@ side-sends s f =
 hears-step : {g : Format} (s : Side) (p : Pair) (x : Step) → Hearing g (deviceAt (other s) p) → steadyFrom s p x ≡ true
     → deviceAt (other s) (moved p x) .receiver ≡ receiverAfter g (wayFrom s .level p) (deedFrom s x) (deviceAt (other s) p .receiver)
 unfolding tick
-hears-step A p Tick h t = hearing.ticks-half (p .b) (transmit (p .a) .level) h (is-level (p .a))
-hears-step B p Tick h t = hearing.ticks-half (p .a) (transmit (p .b) .level) h (is-level (p .b))
-hears-step A p (At B c) h t = hearing.calls-on (p .b) (wayFrom A .level p) h c t .half
-hears-step B p (At A c) h t = hearing.calls-on (p .a) (wayFrom B .level p) h c t .half
+hears-step A p Tick h t = hears-ticked (p .b) (transmit (p .a) .level) h (is-level (p .a))
+hears-step B p Tick h t = hears-ticked (p .a) (transmit (p .b) .level) h (is-level (p .b))
+hears-step A p (At B c) h t = hears-called (p .b) (wayFrom A .level p) h c t .half
+hears-step B p (At A c) h t = hears-called (p .a) (wayFrom B .level p) h c t .half
 hears-step {g = g} A p (At A c) h t = write-leaves g (wayFrom A .level p) c (p .b .receiver)
 hears-step {g = g} B p (At B c) h t = write-leaves g (wayFrom B .level p) c (p .a .receiver)
 
 hears-ready : {g : Format} (s : Side) (p : Pair) (x : Step) → Hearing g (deviceAt (other s) p) → steadyFrom s p x ≡ true
     → faults g (wayFrom s .level p) (deedFrom s x) (deviceAt (other s) p .receiver) ≡ false → Hearing g (deviceAt (other s) (moved p x))
 unfolding tick
-hears-ready A p Tick h t n = hearing.ticks-on (p .b) (transmit (p .a) .level) h (is-level (p .a)) n
-hears-ready B p Tick h t n = hearing.ticks-on (p .a) (transmit (p .b) .level) h (is-level (p .b)) n
-hears-ready A p (At B c) h t n = hearing.calls-on (p .b) true h c t .ready
-hears-ready B p (At A c) h t n = hearing.calls-on (p .a) true h c t .ready
+hears-ready A p Tick h t n = ticked-ready (p .b) (transmit (p .a) .level) h (is-level (p .a)) n
+hears-ready B p Tick h t n = ticked-ready (p .a) (transmit (p .b) .level) h (is-level (p .b)) n
+hears-ready A p (At B c) h t n = hears-called (p .b) true h c t .ready
+hears-ready B p (At A c) h t n = hears-called (p .a) true h c t .ready
 hears-ready A p (At A c) h t n = h
 hears-ready B p (At B c) h t n = h
 

@@ -16,7 +16,7 @@ use Rattle.ins2651_rules.specs.Conditions.{mayStart, breakOn, listening}
 use Rattle.ins2651_rules.specs.Refusals.{mode1Refusal, commandRefusal}
 use Rattle.ins2651_rules.specs.RegisterWrites.{stored}
 use Rattle.ins2651_rules.specs.Runs.{Call, Reset, Write, SetPins, byCall, otherwise, atReset, atRead, atWrite, atPins, atTransmit, atReceive, atOutputs}
-use Rattle.delivery.specs.Log.{Way, nothingYet}
+use Rattle.delivery.specs.Log.{nothingYet}
 use Rattle.delivery.specs.OneWay.{inTime}
 use Rattle.delivery.specs.Promise.{hasBegun, Delivered, Fetched, FirstWrites}
 use Rattle.joined_rules.specs.declared.Pair.{Pair}

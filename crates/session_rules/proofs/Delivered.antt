@@ -7,17 +7,16 @@ use mathlib.Core.List.{List, [], _∷_, _++_, map, map-append}
 use lib.Dec.{eqb, leb}
 use lib.ListN.{replicate}
 use borrow.Author.Tests.{eqb-true}
-use Rattle.line_rules.proofs.Choice.{either}
 use Rattle.line_rules.proofs.Table.{both}
 use Rattle.fields.specs.Parted.{fieldsOf}
 use Rattle.ins2651_rules.specs.Runs as chip
 use Rattle.ins2651_rules.specs.RegisterReads.{readRegister, read}
-use Rattle.ins2651_rules.specs.declared.Device.{Device}
 use Rattle.delivery.specs.OneWay.{Deed, Ticks, Writes, Reads, Passes, getting, puts, gets}
 use Rattle.delivery.specs.Promise.{InOrder}
 use Rattle.joined_rules.specs.declared.Pair.{Pair}
 use Rattle.joined_rules.specs.Bench.{unread, character, Side, A, B, other, deviceAt, Step, Tick, At, moved, allMoved, writing, reading, deedFrom, wayFrom}
 use Rattle.joined_rules.specs.Demand3.{Settings, settingsAt, Proper, sends, Agree}
+use Rattle.joined_rules.proofs.Calls.{of-writing}
 use Rattle.joined_rules.proofs.Order.{run-in-order}
 use Rattle.records.specs.declared.Record.{Record}
 use Rattle.records.specs.declared.Record.the-variants.{Write, Read, Pins, Reset, Shapeless}
@@ -27,12 +26,10 @@ use Rattle.records.specs.Printed.{proper}
 use Rattle.records.proofs.Parser.{reads-printed}
 use Rattle.rows.specs.Text.{rowText, valueText}
 use Rattle.session_rules.specs.declared.Said.{Said}
-use Rattle.session_rules.specs.declared.Said.the-variants.{Value}
-use Rattle.session_rules.specs.Calls.{freshPair, deviceOf, obey, lineReply, saidText}
+use Rattle.session_rules.specs.Calls.{freshPair, obey, lineReply, saidText}
 use Rattle.session_rules.specs.Rows.{overlong, shapeless}
 use Rattle.session_rules.specs.Steps.{side, recordSteps, lineSteps, allSteps}
-use Rattle.session_rules.specs.Whole.{linesTaken}
-use Rattle.session_rules.specs.Delivered.{Meets, unitOf, isRead, fetches, printed, Shows, Delivers}
+use Rattle.session_rules.specs.Delivered.{Meets, unitOf, isRead, fetches, printed, Delivers}
 use Rattle.session_rules.proofs.Lines.{line-moves}
 
 -- == one line ==
@@ -96,13 +93,7 @@ at-read s unit address h r = by-unit s (eqb unit 65) refl r
 
 -- no other call is a read
 no-writing : (c : chip.Call) → isRead (writing c) ≡ false
-no-writing chip.Reset = refl
-no-writing (chip.Read address) = refl
-no-writing (chip.Write address v) = either (λ (k : Deed). isRead k ≡ false) (eqb address 0) refl refl
-no-writing (chip.SetPins dsr dcd cts) = refl
-no-writing chip.Transmit = refl
-no-writing (chip.Receive x) = refl
-no-writing chip.Outputs = refl
+no-writing c = of-writing (λ k. isRead k ≡ false) c refl (λ v e. refl)
 
 no-read : (s : Side) (t : Side) (c : chip.Call) → isRead (reading c) ≡ false → isRead (deedFrom s (At t c)) ≡ false
 no-read A A c h = no-writing c
