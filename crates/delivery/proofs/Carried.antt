@@ -98,7 +98,7 @@ module _ {W X : Type 0} {o : OneWay W X} {f g : Format} (fit : Fit f g) {Sending
 
     write-keeps : (v : ℕ) → o .deed d x ≡ Writes v → permits o L w (Writes v) ≡ true → Keeps (made o w e (Writes v))
     write-keeps v q p =
-        let t = both _ _ p in
+        let t = both (o .mayWrite d) (ltb v 256) p in
         keeps-on (Writes v) q refl λ at-to.
         write-flows fit v (h .flow) (eqb-true _ _ (sym (from .may-write d (h .sends)) ∙ t .0)) (ltb-true _ _ (t .1))
 

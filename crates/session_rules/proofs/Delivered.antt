@@ -71,6 +71,13 @@ one-step unit c Reads true text rest h = ap (λ (t : List ℕ). t ∷ rest) (h r
 one-step unit c Reads false text rest h = refl
 one-step unit c Passes u text rest h = refl
 
+-- what is no read gets nothing
+gets-none : (u : Bool) (c : ℕ) (k : Deed) → isRead k ≡ false → getting u c k [] ≡ []
+gets-none u c Ticks h = refl
+gets-none u c (Writes v) h = refl
+gets-none u c Reads h = absurd (false≢true (sym h))
+gets-none u c Passes h = refl
+
 -- a read of address 0 prints what the device holds
 read-said : (s : Side) (n : ℕ) (p : Pair) → saidText n (obey p (Read (unitOf s) 0) .said) ≡ valueText (unitOf s) 0 (character (deviceAt s p))
 unfolding obey saidText rowText read readRegister
@@ -112,8 +119,8 @@ module _ (s : Side) (n : ℕ) (p : Pair) (rest : List (List ℕ)) where
   -- a call that is no read
   silent : (t : Side) (c : chip.Call) (said : Said) → isRead (reading c) ≡ false → Prints (At t c ∷ []) said
   silent t c said h =
-      one-step unit (character (deviceAt (other s) p)) (deedFrom s (At t c)) (unread (deviceAt (other s) p)) (saidText n said) rest
-      (λ r. absurd (false≢true (sym (no-read s t c h) ∙ r)))
+      let z = no-read s t c h in
+      rw z (ap (λ (vs : List ℕ). map (valueText unit 0) vs ++ rest) (sym (gets-none (unread (deviceAt (other s) p)) (character (deviceAt (other s) p)) (deedFrom s (At t c)) z)))
 
   ticks-print : (k : ℕ) (said : Said) → Prints (replicate k Tick) said
   ticks-print zero said = refl
