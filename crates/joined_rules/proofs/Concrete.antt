@@ -168,6 +168,11 @@ pub unasked-write-loses : runs (start one-stop two-stops) (At A (Write 0 193) �
 unfolding part oddOnes parityBit sample link-transmitting.transmit link-hearing.receive line-range.inRange senderInRange receiverInRange formatOf statusByte inRange settled writeRefusal readRegister read writeRegister write pinned setPins transmitTick transmit receiveTick receive tick
 unasked-write-loses = refl
 
+-- the second character waits until the first one's frame is over, at 11: bit 0 is 0 after 11 ticks, and 1 after 12
+pub permission-told : told (start one-stop two-stops) (At A (Write 0 193) ∷ Tick ∷ At A (Write 0 194) ∷ after 10 (At A (Read 1) ∷ Tick ∷ At A (Read 1) ∷ [])) ≡ 196 ∷ 193 ∷ []
+unfolding part oddOnes parityBit sample link-transmitting.transmit link-hearing.receive line-range.inRange senderInRange receiverInRange formatOf statusByte inRange settled writeRefusal readRegister read writeRegister write pinned setPins transmitTick transmit receiveTick receive tick
+permission-told = refl
+
 -- == one way, whatever happens on the other ==
 
 -- b writes two characters that a never reads, and a third unasked; a's receive is turned off. On the way from a all is read in time
