@@ -1,3 +1,4 @@
 pub mod Delivery
 pub mod Carried
 pub mod Order
+pub mod Halves

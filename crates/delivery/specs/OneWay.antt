@@ -32,22 +32,6 @@ pub record OneWay (W X : Type 0) : Type 0 where
 
 -- == the log ==
 
--- a joined tick counts
-abbrev pub later : ℕ → Deed → ℕ
-later now Ticks = suc now
-later now (Writes v) = now
-later now Reads = now
-later now Passes = now
-
--- when the latest came
-abbrev pub latest : List Entry → ℕ
-latest [] = 0
-latest (y ∷ ys) = y .at
-
--- a joined tick where a character that has come is read before L more
-abbrev pub inTime : ℕ → ℕ → Bool → Way → Bool
-inTime L now unread w = not unread || ltb (suc now) (latest (w .came) + L)
-
 -- the bench, the joined ticks so far, and the log
 pub record Logged (W : Type 0) : Type 0 where
   pub bench : W
@@ -57,18 +41,12 @@ pub record Logged (W : Type 0) : Type 0 where
 abbrev pub begun : {W : Type 0} → W → Logged W
 begun w = record { bench = w; now = 0; log = nothingYet }
 
--- a character that is written, before others; one that is read, where it was unread
-abbrev pub putting : Deed → List ℕ → List ℕ
-putting Ticks vs = vs
-putting (Writes v) vs = v ∷ vs
-putting Reads vs = vs
-putting Passes vs = vs
-
-abbrev pub getting : Bool → ℕ → Deed → List ℕ → List ℕ
-getting unread c Ticks vs = vs
-getting unread c (Writes v) vs = vs
-getting unread c Reads vs = cond unread (c ∷ vs) vs
-getting unread c Passes vs = vs
+-- a joined tick counts
+abbrev pub later : ℕ → Deed → ℕ
+later now Ticks = suc now
+later now (Writes v) = now
+later now Reads = now
+later now Passes = now
 
 module _ {W X : Type 0} (o : OneWay W X) where
   -- what a step adds to the log, where it makes e of the bench d: a character came if none was unread before the tick and one is after it
@@ -89,20 +67,18 @@ module _ {W X : Type 0} (o : OneWay W X) where
   runs w [] = w
   runs w (x ∷ xs) = runs (step w x) xs
 
-  -- == what was written and read, from the steps alone, the first one first ==
+-- == what is allowed ==
 
-  -- the characters written
-  abbrev pub puts : W → List X → List ℕ
-  puts d [] = []
-  puts d (x ∷ xs) = putting (o .deed d x) (puts (o .next d x) xs)
+-- when the latest came
+abbrev pub latest : List Entry → ℕ
+latest [] = 0
+latest (y ∷ ys) = y .at
 
-  -- the values of the reads made while a character was unread
-  abbrev pub gets : W → List X → List ℕ
-  gets d [] = []
-  gets d (x ∷ xs) = getting (o .unread d) (o .character d) (o .deed d x) (gets (o .next d x) xs)
+-- a joined tick where a character that has come is read before L more
+abbrev pub inTime : ℕ → ℕ → Bool → Way → Bool
+inTime L now unread w = not unread || ltb (suc now) (latest (w .came) + L)
 
-  -- == what is allowed ==
-
+module _ {W X : Type 0} (o : OneWay W X) where
   -- a character is written only when the end may be, and is read before L more joined ticks, where L is the sender's
   abbrev pub permits : ℕ → Logged W → Deed → Bool
   permits L w Ticks = inTime L (w .now) (o .unread (w .bench)) (w .log)
@@ -116,4 +92,30 @@ module _ {W X : Type 0} (o : OneWay W X) where
   -- each step where it stands
   abbrev pub allAllowed : ℕ → Logged W → List X → Bool
   allAllowed L w [] = true
-  allAllowed L w (x ∷ xs) = allowed L w x && allAllowed L (step w x) xs
+  allAllowed L w (x ∷ xs) = allowed L w x && allAllowed L (step o w x) xs
+
+-- == what was written and read, from the steps alone, the first one first ==
+
+abbrev pub putting : Deed → List ℕ → List ℕ
+putting Ticks vs = vs
+putting (Writes v) vs = v ∷ vs
+putting Reads vs = vs
+putting Passes vs = vs
+
+-- a read counts where a character, c, was unread
+abbrev pub getting : Bool → ℕ → Deed → List ℕ → List ℕ
+getting unread c Ticks vs = vs
+getting unread c (Writes v) vs = vs
+getting unread c Reads vs = cond unread (c ∷ vs) vs
+getting unread c Passes vs = vs
+
+module _ {W X : Type 0} (o : OneWay W X) where
+  -- the characters written
+  abbrev pub puts : W → List X → List ℕ
+  puts d [] = []
+  puts d (x ∷ xs) = putting (o .deed d x) (puts (o .next d x) xs)
+
+  -- the values of the reads made while a character was unread
+  abbrev pub gets : W → List X → List ℕ
+  gets d [] = []
+  gets d (x ∷ xs) = getting (o .unread d) (o .character d) (o .deed d x) (gets (o .next d x) xs)
