@@ -4,14 +4,13 @@
 use Prim.Native.Nat.{ℕ, suc, _+_, _<_}
 use mathlib.Core.Path.{_≡_, refl, ap, ap₂, sym, subst, _∙_}
 use mathlib.Core.Bool.{Bool, true, false, cond, not, _&&_, _||_, true≢false}
-use mathlib.Core.List.{List, [], _∷_, _++_}
+use mathlib.Core.List.{List, [], _∷_}
 use lib.Dec.{ltb}
 use borrow.Author.Tests.{ltb-true, eqb-true}
 use Rattle.line_rules.specs.declared.Format.{Format}
 use Rattle.line_rules.specs.declared.Receiver.{Receiver}
 use Rattle.line_rules.specs.Sending.{on, frameLength}
 use Rattle.line_rules.proofs.Table.{both}
-use Rattle.line_rules.proofs.Choice.{all}
 use Rattle.link_rules.specs.declared.SenderHalf.{SenderHalf}
 use Rattle.link_rules.specs.declared.ReceiverHalf.{ReceiverHalf}
 use Rattle.link_rules.specs.Parts.{emptied}
@@ -19,10 +18,10 @@ use Rattle.link_rules.specs.Transmitting.{transmit}
 use Rattle.link_rules.specs.Hearing.{underWay}
 use Rattle.link_rules.proofs.Halves.{Tuned}
 use Rattle.delivery.specs.Log.{Way, logArrival, logRead}
-use Rattle.delivery.specs.OneWay.{Deed, Ticks, Writes, Reads, Passes, OneWay, latest, Logged, begun, entered, made, step, runs, permits, allowed, allAllowed}
-use Rattle.delivery.specs.Promise.{Fetched, Promised}
-use Rattle.delivery.specs.Ends.{senderAfter, receiverAfter, hears, faults, Sends, Receives, Begins}
-use Rattle.delivery.proofs.Delivery.{noticed, Fit, Flow, Flows, tick-flows, write-flows, read-flows, flow-delivers, flow-fetched, flow-permits, Idles, flow-idles, flow-begins, first-writes}
+use Rattle.delivery.specs.OneWay.{Deed, Ticks, Writes, Reads, Passes, OneWay, latest, Logged, noLog, entered, made, step, runs, permits, allowed, allAllowed}
+use Rattle.delivery.specs.Promise.{Fetched, Idles, Promised}
+use Rattle.delivery.specs.Ends.{senderAfter, receiverAfter, receiveOn, faults, Fit, Sends, Receives, Begins}
+use Rattle.delivery.proofs.Delivery.{noticed, Flow, Flows, tick-flows, write-flows, read-flows, flow-delivers, flow-fetched, flow-permits, flow-idles, flow-begins, first-writes}
 
 -- where p makes q so
 or-else : (p q : Bool) → (not p || q) ≡ true → p ≡ true → q ≡ true
@@ -88,11 +87,11 @@ module _ {W X : Type 0} {o : OneWay W X} {f g : Format} (fit : Fit f g) {Sending
         let lv = from .level d (h .sends) in
         let timely : on (receiver d .unread) ≡ true → suc (w .now) < latest (w .log .came) + L =
         λ u. ltb-true _ _ (or-else (o .unread d) (ltb (suc (w .now)) (latest (w .log .came) + L)) p (to .unread d (h .hears) ∙ u)) in
-        let t : Flows fit (transmit (sender d) true false f .half) (receiver d) (hears g (o .level d) (receiver d)) (w .now) (w .log) =
-        subst (λ (y : Bool). Flows fit (transmit (sender d) true false f .half) (receiver d) (hears g y (receiver d)) (w .now) (w .log)) (sym lv)
+        let t : Flows fit (transmit (sender d) true false f .half) (receiver d) (receiveOn g (o .level d) (receiver d)) (w .now) (w .log) =
+        subst (λ (y : Bool). Flows fit (transmit (sender d) true false f .half) (receiver d) (receiveOn g y (receiver d)) (w .now) (w .log)) (sym lv)
         (tick-flows fit (h .flow) timely) in
         keeps-on Ticks q (rw (t .no-overrun) (t .sound)) λ at-to.
-        subst (Goes (transmit (sender d) true false f .half) (hears g (o .level d) (receiver d) .half) (suc (w .now)))
+        subst (Goes (transmit (sender d) true false f .half) (receiveOn g (o .level d) (receiver d) .half) (suc (w .now)))
         (sym (notices (w .now) d e (w .log) (h .hears) at-to ∙ ap (λ (r : ReceiverHalf). noticed (suc (w .now)) (receiver d) r (w .log)) (receiver-is Ticks q)))
         (t .flow)
 
@@ -125,14 +124,14 @@ module _ {W X : Type 0} {o : OneWay W X} {f g : Format} (fit : Fit f g) {Sending
   -- == the theorems ==
 
   -- from where a way begins, any steps that are allowed
-  module _ (w : W) (b : Begins Sending Hearing sender receiver w) (xs : List X) (ok : allAllowed o L (begun w) xs ≡ true) where
+  module _ (w : W) (b : Begins Sending Hearing sender receiver w) (xs : List X) (ok : allAllowed o L (noLog w) xs ≡ true) where
     abbrev end : Logged W
-    end = runs o (begun w) xs
+    end = runs o (noLog w) xs
 
     kept : Keeps end
     kept =
         let tuned : Tuned g (receiver w) = ap (λ (r : Receiver). cond (underWay r) (receiver w .format) g) (b .searches) in
-        all-keep (begun w) xs (record { sends = b .sends; hears = b .hears; flow = flow-begins fit (sender w) (receiver w) (b .idle) (b .searches) (b .read) tuned }) ok
+        all-keep (noLog w) xs (record { sends = b .sends; hears = b .hears; flow = flow-begins fit (sender w) (receiver w) (b .idle) (b .searches) (b .read) tuned }) ok
 
     fetched : Fetched (o .unread (end .bench)) (end .log .came) (end .log .read)
     fetched = subst (λ (u : Bool). Fetched u (end .log .came) (end .log .read)) (sym (to .unread (end .bench) (kept .hears))) (flow-fetched fit (kept .flow))
@@ -151,10 +150,3 @@ module _ {W X : Type 0} {o : OneWay W X} {f g : Format} (fit : Fit f g) {Sending
     -- 'idle', as the promise reads it from the log, is what it is in the sending half
     pub way-idles : Idles f (sender (end .bench)) (end .now) (end .log .written)
     way-idles = flow-idles fit (kept .flow)
-
--- a list of allowed steps is allowed up to any of them, so that what holds after every such list holds all along
-pub prefix-allowed : {W X : Type 0} (o : OneWay W X) (L : ℕ) (w : Logged W) (xs ys : List X) → allAllowed o L w (xs ++ ys) ≡ true → allAllowed o L w xs ≡ true
-prefix-allowed o L w [] ys h = refl
-prefix-allowed o L w (x ∷ xs) ys h =
-    let p = both (allowed o L w x) (allAllowed o L (step o w x) (xs ++ ys)) h in
-    all (p .0) (prefix-allowed o L (step o w x) xs ys (p .1))

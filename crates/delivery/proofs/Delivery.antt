@@ -31,8 +31,8 @@ use Rattle.link_rules.proofs.Halves.{transmit-under, length-bound, frameOf, fra
 use Rattle.delivery.specs.Log.{Entry, Way, nothingYet, logWrite, logArrival, logRead}
 use Rattle.delivery.specs.OneWay.{latest}
 use Rattle.delivery.specs.Promise
-use Rattle.delivery.specs.Promise.{over, hasBegun, Answers, Answered, nothing, one, Delivered, due, values, Fetched, FirstWrites}
-use Rattle.delivery.specs.Ends.{faulty}
+use Rattle.delivery.specs.Promise.{over, hasBegun, Answers, Answered, nothing, one, Delivered, due, values, Fetched, FirstWrites, Idles}
+use Rattle.delivery.specs.Ends.{faulty, Fit}
 
 -- a character that is read, or not: what the receiving half holds, what came and what was read
 pub data Held : ℕ → ℕ → List Entry → List ℕ → Type 0 where
@@ -46,16 +46,6 @@ noticed now r q w = cond (not (on (r .unread)) && on (q .unread)) (logArrival no
 not-twice : {X : Type 0} (u : Bool) (x y : X) → cond (not u && u) x y ≡ y
 not-twice true x y = refl
 not-twice false x y = refl
-
--- a sender in the format f is idle, with no frame under way and nothing waiting, exactly when the frames of all that was written are over
-pub record Idles (f : Format) (s : SenderHalf) (now : ℕ) (xs : List Entry) : Type 0 where
-  pub nothing : over (frameLength f) xs ≤ now → (s .frame .place ≡ 0) × (s .full ≡ 0)
-  pub over-by-now : s .frame .place ≡ 0 → s .full ≡ 0 → over (frameLength f) xs ≤ now
-
--- a sender in the format f, and a receiver in a format g that is alike
-pub record Fit (f g : Format) : Type 0 where
-  pub bounds : Bounds f
-  pub alike : Alike f g
 
 module _ {f g : Format} (fit : Fit f g) where
   bounds : Bounds f

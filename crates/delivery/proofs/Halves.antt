@@ -1,7 +1,6 @@
 -- The barest bench: a sending half and a receiving half of `link` on a line, with a mark that is set by a fault. It shows both ends, so that the
 -- promise is not made of nothing, and is an example to copy.
 -- Assumes nothing.
-use Prim.Native.Nat.{ℕ}
 use mathlib.Core.Path.{_≡_, refl}
 use mathlib.Core.Bool.{Bool, true, false, _||_}
 use mathlib.Core.List.{List, [], _∷_, _++_}
@@ -15,11 +14,9 @@ use Rattle.link_rules.specs.declared.ReceiverHalf.{ReceiverHalf}
 use Rattle.link_rules.specs.Parts.{noFormat, idleSender}
 use Rattle.link_rules.specs.Transmitting.{transmit}
 use Rattle.link_rules.specs.Hearing.{receive}
-use Rattle.delivery.specs.Log.{Way}
-use Rattle.delivery.specs.OneWay.{Deed, Ticks, Writes, Reads, OneWay, begun, runs, allAllowed}
+use Rattle.delivery.specs.OneWay.{Deed, Ticks, Writes, Reads, OneWay, noLog, runs, allAllowed}
 use Rattle.delivery.specs.Promise.{Promised}
-use Rattle.delivery.specs.Ends.{senderAfter, receiverAfter, faults, Sends, Receives, Begins}
-use Rattle.delivery.proofs.Delivery.{Fit}
+use Rattle.delivery.specs.Ends.{senderAfter, receiverAfter, faults, Fit, Sends, Receives}
 use Rattle.delivery.proofs.Carried.{way-delivers}
 
 pub record Bare : Type 0 where
@@ -61,7 +58,7 @@ module _ (f g : Format) where
   abbrev pub at-rest : Bare
   at-rest = record { sender = idleSender; receiver = record { state = searching; format = noFormat; holding = 0; unread = 0 }; fault = false }
 
-  pub halves-deliver : Fit f g → (ks : List Deed) → allAllowed halves (frameLength f) (begun at-rest) ks ≡ true → Promised halves f (runs halves (begun at-rest) ks)
+  pub halves-deliver : Fit f g → (ks : List Deed) → allAllowed halves (frameLength f) (noLog at-rest) ks ≡ true → Promised halves f (runs halves (noLog at-rest) ks)
   halves-deliver fit ks ok = way-delivers fit halves-send halves-receive at-rest (record { sends = tt; hears = refl; idle = refl; searches = refl; read = refl }) ks ok
 
 -- == a run ==
@@ -73,11 +70,11 @@ five = record { factor = 1; length = 5; parity = 0; even = 0; stop = 1 }
 abbrev two-characters : List Deed
 two-characters = Writes 42 ∷ Ticks ∷ Writes 21 ∷ replicate 12 Ticks ++ Reads ∷ Ticks ∷ Reads ∷ []
 
-pub two-allowed : allAllowed (halves five five) (frameLength five) (begun (at-rest five five)) two-characters ≡ true
+pub two-allowed : allAllowed (halves five five) (frameLength five) (noLog (at-rest five five)) two-characters ≡ true
 unfolding part oddOnes parityBit sample transmit receive
 two-allowed = refl
 
-pub two-logged : runs (halves five five) (begun (at-rest five five)) two-characters .log
+pub two-logged : runs (halves five five) (noLog (at-rest five five)) two-characters .log
     ≡ record {
       written = record { at = 1; value = 21 } ∷ record { at = 0; value = 42 } ∷ [];
       came = record { at = 14; value = 21 } ∷ record { at = 7; value = 10 } ∷ [];

@@ -1,4 +1,7 @@
 pub mod Delivery
 pub mod Carried
 pub mod Order
+pub mod Lists
 pub mod Halves
+pub mod Started
+pub mod Joined

@@ -7,7 +7,7 @@ use mathlib.Core.List.{List, [], _∷_, _++_, map, reverse, reverseAux, reverse-
 use Rattle.line_rules.specs.declared.Format.{Format}
 use Rattle.line_rules.specs.Sending.{cut}
 use Rattle.delivery.specs.Log.{Entry, Way, logArrival, logRead}
-use Rattle.delivery.specs.OneWay.{Deed, Ticks, Writes, Reads, Passes, OneWay, Logged, begun, putting, getting, made, step, runs, puts, gets}
+use Rattle.delivery.specs.OneWay.{Deed, Ticks, Writes, Reads, Passes, OneWay, Logged, noLog, putting, getting, made, step, runs, puts, gets}
 use Rattle.delivery.specs.Promise.{values, FirstWrites, InOrder, Promised}
 
 -- == the log by the steps ==
@@ -75,5 +75,5 @@ turned f read written e q w =
     }
 
 -- what was read is a beginning of what was written, cut
-pub reads-in-order : {W X : Type 0} (o : OneWay W X) (f : Format) (w : W) (xs : List X) → Promised o f (runs o (begun w) xs) → InOrder f (gets o w xs) (puts o w xs)
-reads-in-order o f w xs p = turned f (gets o w xs) (puts o w xs) (gets-logged o (begun w) xs) (puts-logged o (begun w) xs) (p .reads)
+pub reads-in-order : {W X : Type 0} (o : OneWay W X) (f : Format) (w : W) (xs : List X) → Promised o f (runs o (noLog w) xs) → InOrder f (gets o w xs) (puts o w xs)
+reads-in-order o f w xs p = turned f (gets o w xs) (puts o w xs) (gets-logged o (noLog w) xs) (puts-logged o (noLog w) xs) (p .reads)

@@ -1,12 +1,16 @@
 -- What the two ends of a way have to show to be joined: each follows its half of `link` while nothing changes what the way rests on.
+-- A bench shows `Sends` and `Receives`; where it is two chips on a line, each chip shows `SendingEnd` and `ReceivingEnd`, once, and the bench has the rest
+-- from proofs/Joined.antt.
 -- Assumes nothing.
 use mathlib.Core.Path.{_≡_}
-use mathlib.Core.Bool.{Bool, true, false, _||_}
+use mathlib.Core.Bool.{Bool, true, false, cond, _||_}
 use lib.Dec.{eqb}
 use Rattle.line_rules.specs.declared.Format.{Format}
 use Rattle.line_rules.specs.declared.Arrival.{Arrival}
 use Rattle.line_rules.specs.Sending.{on}
+use Rattle.line_rules.specs.Range.{Bounds}
 use Rattle.line_rules.specs.Receiving.{searching}
+use Rattle.line_rules.specs.Sees.{Alike}
 use Rattle.link_rules.specs.declared.SenderHalf.{SenderHalf}
 use Rattle.link_rules.specs.declared.ReceiverHalf.{ReceiverHalf}
 use Rattle.link_rules.specs.declared.Received.{Received}
@@ -14,6 +18,7 @@ use Rattle.link_rules.specs.Parts.{idleSender, loaded, emptied}
 use Rattle.link_rules.specs.Transmitting.{transmit}
 use Rattle.link_rules.specs.Hearing.{arrives, receive}
 use Rattle.delivery.specs.OneWay.{Deed, Ticks, Writes, Reads, Passes, OneWay}
+use Rattle.delivery.specs.Joined.{Chip}
 
 -- == the halves ==
 
@@ -25,12 +30,12 @@ senderAfter f Reads h = h
 senderAfter f Passes h = h
 
 -- the tick of a receiving half that is on, in the format g, with the level x
-abbrev pub hears : Format → Bool → ReceiverHalf → Received
-hears g x h = receive h true g x
+abbrev pub receiveOn : Format → Bool → ReceiverHalf → Received
+receiveOn g x h = receive h true g x
 
 -- what a deed makes of the receiving half: a tick, with the level x on the line; a read empties it
 abbrev pub receiverAfter : Format → Bool → Deed → ReceiverHalf → ReceiverHalf
-receiverAfter g x Ticks h = hears g x h .half
+receiverAfter g x Ticks h = receiveOn g x h .half
 receiverAfter g x (Writes v) h = h
 receiverAfter g x Reads h = emptied h
 receiverAfter g x Passes h = h
@@ -39,14 +44,22 @@ receiverAfter g x Passes h = h
 abbrev pub faulty : Arrival → Bool
 faulty a = a .parity || a .framing
 
--- a deed brings a fault: one that arrives, or a register found unread
+-- a tick brings a fault: such an arrival, or one that finds the register unread
+abbrev pub tickFaults : Format → Bool → ReceiverHalf → Bool
+tickFaults g x h = receiveOn g x h .overrun || arrives faulty (receiveOn g x h .heard)
+
 abbrev pub faults : Format → Bool → Deed → ReceiverHalf → Bool
-faults g x Ticks h = hears g x h .overrun || arrives faulty (hears g x h .heard)
+faults g x Ticks h = tickFaults g x h
 faults g x (Writes v) h = false
 faults g x Reads h = false
 faults g x Passes h = false
 
--- == the ends ==
+-- == the ends of a bench ==
+
+-- the sender's format f is one of document 01's, and frames of the receiver's format g are alike
+pub record Fit (f g : Format) : Type 0 where
+  pub bounds : Bounds f
+  pub alike : Alike f g
 
 -- an end that sends in the format f: `Ready` is what its sending rests on
 pub record Sends {W X : Type 0} (o : OneWay W X) (f : Format) (Ready : W → Type 0) (half : W → SenderHalf) : Type 0 where
@@ -74,3 +87,29 @@ pub record Begins {W : Type 0} (Sending Hearing : W → Type 0) (sender : W → 
   pub idle : sender w ≡ idleSender
   pub searches : receiver w .state ≡ searching
   pub read : receiver w .unread ≡ 0
+
+-- == a chip as an end ==
+
+module _ {D C : Type 0} (k : Chip D C) where
+  -- it sends in the format f
+  pub record SendingEnd (f : Format) (Ready : D → Type 0) (half : D → SenderHalf) : Type 0 where
+    pub may-write : (d : D) → Ready d → k .mayWrite d ≡ eqb (half d .full) 0
+    pub level : (d : D) → Ready d → k .level d ≡ transmit (half d) true false f .level
+    -- its part of a joined tick, whatever it hears meanwhile
+    pub tick-ready : (d : D) (x : Bool) → Ready d → Ready (k .tick d x)
+    pub tick-half : (d : D) (x : Bool) → Ready d → half (k .tick d x) ≡ transmit (half d) true false f .half
+    -- a call that leaves its sending alone: a write loads the half
+    pub call-ready : (d : D) (c : C) → Ready d → k .leavesSending d c ≡ true → Ready (k .next d c)
+    pub call-half : (d : D) (c : C) → Ready d → k .leavesSending d c ≡ true → half (k .next d c) ≡ cond (k .writes d c) (loaded (half d) (k .value c)) (half d)
+
+  -- it receives in the format g
+  pub record ReceivingEnd (g : Format) (Ready : D → Type 0) (half : D → ReceiverHalf) : Type 0 where
+    pub unread : (d : D) → Ready d → k .unread d ≡ on (half d .unread)
+    pub character : (d : D) → Ready d → k .character d ≡ half d .holding
+    pub no-flag : (d : D) → Ready d → k .flagged d ≡ false
+    -- its part of a joined tick, with the level x on the line
+    pub tick-ready : (d : D) (x : Bool) → Ready d → tickFaults g x (half d) ≡ false → Ready (k .tick d x)
+    pub tick-half : (d : D) (x : Bool) → Ready d → half (k .tick d x) ≡ receiveOn g x (half d) .half
+    -- a call that leaves its receiving alone: a read empties the half
+    pub call-ready : (d : D) (c : C) → Ready d → k .leavesReceiving d c ≡ true → Ready (k .next d c)
+    pub call-half : (d : D) (c : C) → Ready d → k .leavesReceiving d c ≡ true → half (k .next d c) ≡ cond (k .reads d c) (emptied (half d)) (half d)

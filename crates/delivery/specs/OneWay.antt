@@ -38,8 +38,8 @@ pub record Logged (W : Type 0) : Type 0 where
   pub now : ℕ
   pub log : Way
 
-abbrev pub begun : {W : Type 0} → W → Logged W
-begun w = record { bench = w; now = 0; log = nothingYet }
+abbrev pub noLog : {W : Type 0} → W → Logged W
+noLog w = record { bench = w; now = 0; log = nothingYet }
 
 -- a joined tick counts
 abbrev pub later : ℕ → Deed → ℕ
@@ -74,7 +74,7 @@ abbrev pub latest : List Entry → ℕ
 latest [] = 0
 latest (y ∷ ys) = y .at
 
--- a joined tick where a character that has come is read before L more
+-- a joined tick is allowed if nothing is unread, or if it is not the L-th since the latest came: that one is read before L more
 abbrev pub inTime : ℕ → ℕ → Bool → Way → Bool
 inTime L now unread w = not unread || ltb (suc now) (latest (w .came) + L)
 

@@ -8,6 +8,7 @@ use mathlib.Core.List.{List, [], _∷_, _++_, map}
 use lib.Dec.{ltb}
 use Rattle.line_rules.specs.declared.Format.{Format}
 use Rattle.line_rules.specs.Sending.{cut, frameLength, stopSample}
+use Rattle.link_rules.specs.declared.SenderHalf.{SenderHalf}
 use Rattle.delivery.specs.Log.{Entry}
 use Rattle.delivery.specs.OneWay.{OneWay, Logged}
 
@@ -48,6 +49,11 @@ module _ (f : Format) where
     all : {xs : List Entry} → Answered ys xs → Delivered now ys xs
     due : {x : Entry} {xs : List Entry} → now < x .at + (L + D) → Delivered now ys xs → Delivered now ys (x ∷ xs)
 
+-- each of them was logged by now, so that one that is due comes after at most L+D more joined ticks
+pub data ByNow (now : ℕ) : List Entry → Type 0 where
+  nothing : ByNow now []
+  one : {x : Entry} {xs : List Entry} → x .at ≤ now → ByNow now xs → ByNow now (x ∷ xs)
+
 -- == what the bench sees ==
 
 abbrev pub values : List Entry → List ℕ
@@ -69,6 +75,11 @@ pub record FirstWrites (f : Format) (vs : List ℕ) (xs : List Entry) : Type 0 w
 pub record InOrder (f : Format) (read written : List ℕ) : Type 0 where
   pub later : List ℕ
   pub first : map (cut f) written ≡ read ++ later
+
+-- 'idle' in a sending half: no frame under way and nothing waiting exactly when the frames of all that was written are over
+pub record Idles (f : Format) (s : SenderHalf) (now : ℕ) (xs : List Entry) : Type 0 where
+  pub nothing : over (frameLength f) xs ≤ now → (s .frame .place ≡ 0) × (s .full ≡ 0)
+  pub over-by-now : s .frame .place ≡ 0 → s .full ≡ 0 → over (frameLength f) xs ≤ now
 
 -- == the promise ==
 

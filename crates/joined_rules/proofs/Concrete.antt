@@ -11,7 +11,6 @@ use Rattle.line_rules.specs.Receiving.{sample}
 use Rattle.link_rules.specs.Transmitting as link-transmitting
 use Rattle.link_rules.specs.Hearing as link-hearing
 use Rattle.link_rules.specs.Within.{senderInRange, receiverInRange}
-use Rattle.ins2651_rules.specs.Shape.{resetDevice}
 use Rattle.ins2651_rules.specs.Modes.{formatOf}
 use Rattle.ins2651_rules.specs.Status.{statusByte}
 use Rattle.ins2651_rules.specs.Ranges.{inRange, settled}
@@ -20,14 +19,16 @@ use Rattle.ins2651_rules.specs.RegisterReads.{readRegister, read}
 use Rattle.ins2651_rules.specs.RegisterWrites.{writeRegister, write}
 use Rattle.ins2651_rules.specs.Pinning.{pinned, setPins}
 use Rattle.ins2651_rules.specs.Ticks.{transmitTick, transmit, receiveTick, receive}
-use Rattle.ins2651_rules.specs.Runs.{Reset, Read, Write, SetPins, said}
-use Rattle.delivery.specs.OneWay.{begun}
+use Rattle.ins2651_rules.specs.Runs.{Reset, Read, Write, SetPins, Transmit, Receive, Outputs, said}
+use Rattle.ins2651_ends.specs.OnALine.{statusBit}
+use Rattle.delivery.specs.OneWay.{noLog}
 use Rattle.delivery.specs.OneWay as one-way
 use Rattle.delivery.specs.Promise.{Promised}
+use Rattle.delivery.specs.Joined.{A, B}
 use Rattle.joined_rules.specs.declared.Pair.{Pair}
 use Rattle.joined_rules.specs.Joining.{tick}
-use Rattle.joined_rules.specs.Bench.{statusBit, A, B, Step, Tick, At, wayFrom, Bench, step, runs}
-use Rattle.joined_rules.specs.Demand3.{Settings, Proper, sends, Agree, FreshlySetUp, fresh, allAllowed, Right}
+use Rattle.joined_rules.specs.Bench.{Step, Tick, At, allMoved, justReset, wayFrom, Bench, step, runs}
+use Rattle.joined_rules.specs.Demand3.{Settings, Proper, sends, Agree, FreshlySetUp, fresh, allAllowed, Right, Open}
 use Rattle.joined_rules.proofs.Sequence.{sequences, sequence-sets-up}
 use Rattle.joined_rules.proofs.Promised.{one-way-right, demand-3}
 
@@ -38,15 +39,12 @@ told w (Tick ∷ ss) = told (step w Tick) ss
 told w (At A c ∷ ss) = said (w .pair .a) c .values ++ told (step w (At A c)) ss
 told w (At B c ∷ ss) = said (w .pair .b) c .values ++ told (step w (At B c)) ss
 
-abbrev after : ℕ → List Step → List Step
+abbrev pub after : ℕ → List Step → List Step
 after n ss = replicate n Tick ++ ss
-
-abbrev just-reset : Pair
-just-reset = record { a = resetDevice; b = resetDevice }
 
 -- by document 01's sequence
 abbrev start : Settings → Settings → Bench
-start a b = fresh just-reset (sequences a b)
+start a b = fresh justReset (sequences a b)
 
 -- == document 01's session ==
 
@@ -74,15 +72,15 @@ unfolding part oddOnes parityBit sample link-transmitting.transmit link-hearing.
 session-told = refl
 
 pub session-right : Right worked worked (runs (start worked worked) session)
-session-right = demand-3 worked worked worked-proper worked-proper worked-agrees just-reset (sequences worked worked) (sequence-sets-up worked worked just-reset worked-proper worked-proper) session session-allowed
+session-right = demand-3 worked worked worked-proper worked-proper worked-agrees justReset (sequences worked worked) (sequence-sets-up worked worked justReset worked-proper worked-proper) session session-allowed
 
 -- == another set-up ==
 
 -- the sides mixed in time, pins before modes, reads and a SYN byte between, three refused calls, a first command that is replaced by a second,
--- from any two devices
+-- from any two devices; a character written and a tick before the one side's reset, behind the other's
 abbrev mixed : List Step
 mixed =
-    At B Reset ∷ At A (SetPins 1 0 1) ∷ At A Reset ∷ At A (SetPins 0 0 0) ∷ At B (Write 3 33) ∷ At A (Write 1 22) ∷ At B (Write 2 206)
+    At B Reset ∷ At A (SetPins 1 0 1) ∷ At A (Write 0 7) ∷ At A Transmit ∷ At A Reset ∷ At A (SetPins 0 0 0) ∷ At B (Write 3 33) ∷ At A (Write 1 22) ∷ At B (Write 2 206)
     ∷ At A (Read 1) ∷ At A (Write 2 204) ∷ At A (Write 2 206) ∷ At B (Write 2 126) ∷ At B (SetPins 0 2 0) ∷ At A (Write 2 126)
     ∷ At B (SetPins 0 0 0) ∷ At A (Read 0) ∷ At A (Write 3 103) ∷ At B (Write 3 55) ∷ At A (Write 3 39) ∷ At B (Read 2) ∷ []
 
@@ -98,11 +96,11 @@ mixed-sets-up p =
 -- == a sender kept full, with parity and unequal stops, and the other way in use as well ==
 
 -- 125 is 8 bits, even parity, one stop, one tick a bit; 5 is bits 0 and 2
-abbrev one-stop : Settings
+abbrev pub one-stop : Settings
 one-stop = record { mode1 = 125; mode2 = 0; command = 5 }
 
 -- 253 is the same with two stops; 15 is a rate; 21 is bits 0, 2 and 4
-abbrev two-stops : Settings
+abbrev pub two-stops : Settings
 two-stops = record { mode1 = 253; mode2 = 15; command = 21 }
 
 -- a writes as soon as it may, at ticks 0, 1 and 12; each arrival at b is read as late as it may be, 10 ticks after it; b writes once
@@ -147,7 +145,7 @@ unfolding part oddOnes parityBit sample link-transmitting.transmit link-hearing.
 full-line-back = refl
 
 pub full-line-right : Right one-stop two-stops (runs (start one-stop two-stops) full-line)
-full-line-right = demand-3 one-stop two-stops one-stop-proper two-stops-proper stops-agree just-reset (sequences one-stop two-stops) (sequence-sets-up one-stop two-stops just-reset one-stop-proper two-stops-proper) full-line full-line-allowed
+full-line-right = demand-3 one-stop two-stops one-stop-proper two-stops-proper stops-agree justReset (sequences one-stop two-stops) (sequence-sets-up one-stop two-stops justReset one-stop-proper two-stops-proper) full-line full-line-allowed
 
 -- == what the premises are for ==
 
@@ -185,7 +183,7 @@ pub one-sided-is-not-both : allAllowed one-stop two-stops (start one-stop two-st
 unfolding part oddOnes parityBit sample link-transmitting.transmit link-hearing.receive line-range.inRange senderInRange receiverInRange formatOf statusByte inRange settled writeRefusal readRegister read writeRegister write pinned setPins transmitTick transmit receiveTick receive tick
 one-sided-is-not-both = refl
 
-pub one-sided-allowed : one-way.allAllowed (wayFrom A) (frameLength (sends one-stop)) (begun (start one-stop two-stops .pair)) one-sided ≡ true
+pub one-sided-allowed : one-way.allAllowed (wayFrom A) (frameLength (sends one-stop)) (noLog (start one-stop two-stops .pair)) one-sided ≡ true
 unfolding part oddOnes parityBit sample link-transmitting.transmit link-hearing.receive line-range.inRange senderInRange receiverInRange formatOf statusByte inRange settled writeRefusal readRegister read writeRegister write pinned setPins transmitTick transmit receiveTick receive tick
 one-sided-allowed = refl
 
@@ -194,12 +192,52 @@ pub one-sided-told : told (start one-stop two-stops) one-sided ≡ 193 ∷ 215 �
 unfolding part oddOnes parityBit sample link-transmitting.transmit link-hearing.receive line-range.inRange senderInRange receiverInRange formatOf statusByte inRange settled writeRefusal readRegister read writeRegister write pinned setPins transmitTick transmit receiveTick receive tick
 one-sided-told = refl
 
-pub one-sided-there : one-way.runs (wayFrom A) (begun (start one-stop two-stops .pair)) one-sided .log .read ≡ 194 ∷ 193 ∷ []
+pub one-sided-there : one-way.runs (wayFrom A) (noLog (start one-stop two-stops .pair)) one-sided .log .read ≡ 194 ∷ 193 ∷ []
 unfolding part oddOnes parityBit sample link-transmitting.transmit link-hearing.receive line-range.inRange senderInRange receiverInRange formatOf statusByte inRange settled writeRefusal readRegister read writeRegister write pinned setPins transmitTick transmit receiveTick receive tick
 one-sided-there = refl
 
-pub one-sided-right : Promised (wayFrom A) (sends one-stop) (one-way.runs (wayFrom A) (begun (start one-stop two-stops .pair)) one-sided)
+pub one-sided-right : Promised (wayFrom A) (sends one-stop) (one-way.runs (wayFrom A) (noLog (start one-stop two-stops .pair)) one-sided)
 unfolding part oddOnes parityBit sample link-transmitting.transmit link-hearing.receive line-range.inRange senderInRange receiverInRange formatOf statusByte inRange settled writeRefusal readRegister read writeRegister write pinned setPins transmitTick transmit receiveTick receive tick
 one-sided-right =
-    one-way-right A just-reset (sequences one-stop two-stops) (record { calls = refl; a-reset = refl; b-reset = refl })
+    one-way-right A justReset (sequences one-stop two-stops) (record { calls = refl; a-reset = refl; b-reset = refl })
     (record { starts = refl; no-break = refl; listens = refl; alike = stops-agree .there }) one-sided one-sided-allowed
+
+-- == one way, with as little as it rests on ==
+
+-- a's receive and b's transmit are off, and the pins that the way does not rest on are high
+abbrev bare-set-up : List Step
+bare-set-up =
+    At A Reset ∷ At B Reset ∷ At A (SetPins 1 1 0) ∷ At B (SetPins 1 0 1) ∷ At A (Write 2 125) ∷ At A (Write 2 0) ∷ At B (Write 2 253) ∷ At B (Write 2 15)
+    ∷ At A (Write 3 1) ∷ At B (Write 3 4) ∷ []
+
+abbrev bare : Pair
+bare = tick (allMoved justReset bare-set-up) .pair
+
+-- ticks of a's receiver and b's sender by themselves, commands and pins at both, a look at the outputs, SYN bytes, and three refused calls
+abbrev busy : List Step
+busy =
+    At A (Write 0 193) ∷ At A (Receive 0) ∷ At B Transmit ∷ Tick ∷ At A (Write 3 33) ∷ At B (Write 3 22) ∷ At A Outputs ∷ At B (SetPins 0 2 0)
+    ∷ after 4 (At A (SetPins 0 1 0) ∷ At B (SetPins 0 0 1) ∷ At B (Write 3 64) ∷ At A (Read 9) ∷ At A (Write 1 22) ∷ At A (Write 0 194)
+    ∷ after 6 (At B (Read 0) ∷ At A (Receive 0) ∷ At B Transmit ∷ after 11 (At B (Read 1) ∷ At B (Read 0) ∷ At B (Read 0) ∷ [])))
+
+pub bare-open : Open A (allMoved justReset bare-set-up)
+unfolding part oddOnes parityBit sample link-transmitting.transmit link-hearing.receive line-range.inRange senderInRange receiverInRange formatOf statusByte inRange settled writeRefusal readRegister read writeRegister write pinned setPins transmitTick transmit receiveTick receive tick
+bare-open = record { starts = refl; no-break = refl; listens = refl; alike = stops-agree .there }
+
+pub busy-allowed : one-way.allAllowed (wayFrom A) (frameLength (sends one-stop)) (noLog bare) busy ≡ true
+unfolding part oddOnes parityBit sample link-transmitting.transmit link-hearing.receive line-range.inRange senderInRange receiverInRange formatOf statusByte inRange settled writeRefusal readRegister read writeRegister write pinned setPins transmitTick transmit receiveTick receive tick
+busy-allowed = refl
+
+-- the second read of 194 finds nothing unread, and counts as none
+pub busy-logged : one-way.runs (wayFrom A) (noLog bare) busy .log
+    ≡ record {
+      written = record { at = 5; value = 194 } ∷ record { at = 0; value = 193 } ∷ [];
+      came = record { at = 22; value = 194 } ∷ record { at = 11; value = 193 } ∷ [];
+      read = 194 ∷ 193 ∷ [];
+    }
+unfolding part oddOnes parityBit sample link-transmitting.transmit link-hearing.receive line-range.inRange senderInRange receiverInRange formatOf statusByte inRange settled writeRefusal readRegister read writeRegister write pinned setPins transmitTick transmit receiveTick receive tick
+busy-logged = refl
+
+pub busy-right : Promised (wayFrom A) (sends one-stop) (one-way.runs (wayFrom A) (noLog bare) busy)
+unfolding part oddOnes parityBit sample link-transmitting.transmit link-hearing.receive line-range.inRange senderInRange receiverInRange formatOf statusByte inRange settled writeRefusal readRegister read writeRegister write pinned setPins transmitTick transmit receiveTick receive tick
+busy-right = one-way-right A justReset bare-set-up (record { calls = refl; a-reset = refl; b-reset = refl }) bare-open busy busy-allowed

@@ -1,7 +1,4 @@
 pub mod Runs
-pub mod Calls
-pub mod Sending
-pub mod Hearing
 pub mod SetUps
 pub mod Ways
 pub mod Promised

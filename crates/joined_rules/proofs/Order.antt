@@ -1,46 +1,61 @@
 -- Demand 3 by the steps' own values, from two devices just reset: what a run reads is a beginning of what it writes, cut, the first one first.
 -- Assumes nothing.
-use mathlib.Core.Path.{_≡_, refl, sym, subst, _∙_}
+use mathlib.Core.Path.{_≡_, sym, subst}
 use mathlib.Core.Bool.{true}
 use mathlib.Core.List.{List, _∷_, _++_}
-use Rattle.ins2651_rules.specs.Shape.{resetDevice}
+use Rattle.line_rules.specs.declared.Format.{Format}
+use Rattle.line_rules.specs.Sending.{frameLength}
+use Rattle.ins2651_rules.specs.Modes.{sendFormat}
 use Rattle.ins2651_rules.specs.Runs.{Reset}
-use Rattle.delivery.specs.OneWay.{puts, gets}
+use Rattle.ins2651_ends.proofs.Untouched.{Untouched, reset-untouched}
+use Rattle.delivery.specs.OneWay.{noLog, puts, gets}
+use Rattle.delivery.specs.OneWay as one-way
 use Rattle.delivery.specs.Promise.{InOrder}
+use Rattle.delivery.specs.Joined.{Side, A, B, other}
 use Rattle.delivery.proofs.Order.{reads-in-order}
 use Rattle.joined_rules.specs.declared.Pair.{Pair}
-use Rattle.joined_rules.specs.Bench.{Side, A, B, other, deviceAt, Step, Tick, At, allMoved, wayFrom}
-use Rattle.joined_rules.specs.Demand3.{Settings, settingsAt, Proper, sends, Agree, allSetUp, Holds, FreshlySetUp, fresh, allAllowed}
-use Rattle.joined_rules.proofs.SetUps.{Untouched, reset-untouched, set-up-puts, set-up-gets}
-use Rattle.joined_rules.proofs.Promised.{each-way-right}
+use Rattle.joined_rules.specs.Joining.{tick}
+use Rattle.joined_rules.specs.Bench.{deviceAt, Step, Tick, At, allMoved, justReset, wayFrom}
+use Rattle.joined_rules.specs.Demand3.{Settings, settingsAt, Proper, sends, Agree, Quiet, FromReset, Holds, FreshlySetUp, fresh, allAllowed, Open}
+use Rattle.joined_rules.proofs.SetUps.{set-up-puts, set-up-gets}
+use Rattle.joined_rules.proofs.Promised.{one-way-right, is-open, ok-each, sends-is}
 
-abbrev just-reset : Pair
-just-reset = record { a = resetDevice; b = resetDevice }
-
--- both are reset already
+-- with the reset that each has had
 abbrev resetting : List Step → List Step
 resetting us = At A Reset ∷ At B Reset ∷ us
 
-module _ (a b : Settings) (pa : Proper a) (pb : Proper b) (agree : Agree a b) (us ss : List Step) (calls : allSetUp us ≡ true)
-    (a-holds : Holds a (allMoved just-reset us .a)) (b-holds : Holds b (allMoved just-reset us .b)) (ok : allAllowed a b (fresh just-reset us) ss ≡ true) where
-  up : FreshlySetUp a b just-reset (resetting us)
-  up = record { from-reset = record { calls = calls; a-reset = refl; b-reset = refl }; a-holds = a-holds; b-holds = b-holds }
+module _ (us : List Step) (quiet : Quiet us) where
+  from-reset : FromReset (resetting us)
+  from-reset = record { calls = quiet .calls; a-reset = rw (quiet .a-quiet); b-reset = rw (quiet .b-quiet) }
 
-  pub run-in-order : (s : Side) → InOrder (sends (settingsAt a b s)) (gets (wayFrom s) just-reset (us ++ Tick ∷ ss)) (puts (wayFrom s) just-reset (us ++ Tick ∷ ss))
-  run-in-order s =
-      subst (λ vs. InOrder (sends (settingsAt a b s)) vs (puts (wayFrom s) just-reset (us ++ Tick ∷ ss))) (sym (set-up-gets s just-reset us (Tick ∷ ss) calls (reset-side (other s)) ∙ tick-gets s))
-      (subst (InOrder (sends (settingsAt a b s)) (gets (wayFrom s) (fresh just-reset us .pair) ss)) (sym (set-up-puts s just-reset us (Tick ∷ ss) calls ∙ tick-puts s))
-      (reads-in-order (wayFrom s) (sends (settingsAt a b s)) (fresh just-reset us .pair) ss (each-way-right a b pa pb agree just-reset (resetting us) up ss ok s)))
-    where
-      reset-side : (s : Side) → Untouched (deviceAt s just-reset)
-      reset-side A = reset-untouched
-      reset-side B = reset-untouched
+  abbrev set : Pair
+  set = allMoved justReset us
 
-      -- the one joined tick writes and reads nothing
-      tick-gets : (s : Side) → gets (wayFrom s) (allMoved just-reset us) (Tick ∷ ss) ≡ gets (wayFrom s) (fresh just-reset us .pair) ss
-      tick-gets A = refl
-      tick-gets B = refl
+  -- one way, whatever happens on the other
+  module _ (s : Side) (opened : Open s set) (ss : List Step) where
+    abbrev f : Format
+    f = sendFormat (deviceAt s set .registers)
 
-      tick-puts : (s : Side) → puts (wayFrom s) (allMoved just-reset us) (Tick ∷ ss) ≡ puts (wayFrom s) (fresh just-reset us .pair) ss
-      tick-puts A = refl
-      tick-puts B = refl
+    reset-side : (t : Side) → Untouched (deviceAt t justReset)
+    reset-side A = reset-untouched
+    reset-side B = reset-untouched
+
+    -- a set-up and the one joined tick write and read nothing
+    pub one-way-in-order : one-way.allAllowed (wayFrom s) (frameLength f) (noLog (tick set .pair)) ss ≡ true
+        → InOrder f (gets (wayFrom s) justReset (us ++ Tick ∷ ss)) (puts (wayFrom s) justReset (us ++ Tick ∷ ss))
+    one-way-in-order ok =
+        subst (λ vs. InOrder f vs (puts (wayFrom s) justReset (us ++ Tick ∷ ss))) (sym (set-up-gets s justReset us (Tick ∷ ss) quiet (reset-side (other s))))
+        (subst (InOrder f (gets (wayFrom s) (tick set .pair) ss)) (sym (set-up-puts s justReset us (Tick ∷ ss) quiet))
+        (reads-in-order (wayFrom s) f (tick set .pair) ss (one-way-right s justReset (resetting us) from-reset opened ss ok)))
+
+  -- both at once
+  module _ (a b : Settings) (pa : Proper a) (pb : Proper b) (agree : Agree a b) (a-holds : Holds a (set .a)) (b-holds : Holds b (set .b)) (ss : List Step)
+      (ok : allAllowed a b (fresh justReset us) ss ≡ true) where
+    up : FreshlySetUp a b justReset (resetting us)
+    up = record { from-reset = from-reset; a-holds = a-holds; b-holds = b-holds }
+
+    pub run-in-order : (s : Side) → InOrder (sends (settingsAt a b s)) (gets (wayFrom s) justReset (us ++ Tick ∷ ss)) (puts (wayFrom s) justReset (us ++ Tick ∷ ss))
+    run-in-order s =
+        subst (λ (f : Format). InOrder f (gets (wayFrom s) justReset (us ++ Tick ∷ ss)) (puts (wayFrom s) justReset (us ++ Tick ∷ ss)))
+        (sends-is a b pa pb agree justReset (resetting us) up ss ok s)
+        (one-way-in-order s (is-open a b pa pb agree justReset (resetting us) up ss ok s) ss (ok-each a b pa pb agree justReset (resetting us) up ss ok s))

@@ -3,24 +3,18 @@
 -- Assumes nothing.
 use Prim.Native.Nat.{ℕ, zero, suc}
 use native.Mathlib.Omega.{arith}
-use mathlib.Core.Path.{_≡_, refl, ap, ap₂, sym, subst, _∙_}
-use mathlib.Core.Bool.{Bool, true, false, _&&_, _||_}
+use mathlib.Core.Path.{_≡_, refl, ap, sym, subst, _∙_}
+use mathlib.Core.Bool.{Bool, true, false, cond, _&&_, _||_}
 use mathlib.Core.List.{List, [], _∷_, _++_}
 use lib.ListN.{replicate}
 use lib.Dec.{eqb}
 use borrow.Author.Tests.{ne-eqb}
 use Rattle.line_rules.specs.declared.Format.{Format}
 use Rattle.line_rules.specs.Sending.{frameLength}
-use Rattle.line_rules.specs.Receiving.{searching, sample}
 use Rattle.line_rules.specs.Sees.{Alike}
 use Rattle.line_rules.proofs.Ranges.{in-range-bounds}
 use Rattle.line_rules.proofs.Table.{both}
-use Rattle.line_rules.proofs.Choice.{all, neither}
-use Rattle.link_rules.specs.declared.SenderHalf.{SenderHalf}
-use Rattle.link_rules.specs.declared.ReceiverHalf.{ReceiverHalf}
-use Rattle.link_rules.specs.Parts.{idleSender, idleReceiver}
-use Rattle.link_rules.specs.Transmitting as link-transmitting
-use Rattle.link_rules.specs.Hearing as link-hearing
+use Rattle.line_rules.proofs.Choice.{all, each, either, neither}
 use Rattle.ins2651_rules.specs.declared.Device.{Device}
 use Rattle.ins2651_rules.specs.Modes.{has, sendFormat, receiveFormat, receiveEnable}
 use Rattle.ins2651_rules.specs.Conditions.{transmitEnabled, clearToSend, modeSet, carrier}
@@ -29,21 +23,23 @@ use Rattle.ins2651_rules.specs.Refusals.{writeRefusal}
 use Rattle.ins2651_rules.specs.Runs.{Call, Reset, Read, Write, SetPins, Transmit, Receive, Outputs}
 use Rattle.ins2651_rules.specs.Rows.{refusal}
 use Rattle.ins2651_rules.proofs.Formats.{format-in}
-use Rattle.delivery.specs.OneWay.{Deed, Ticks, later, Logged, begun, permits}
+use Rattle.ins2651_ends.specs.OnALine.{flagged, statusBit, writes, valueOf, reads, leavesSending, leavesReceiving, refusedOr}
+use Rattle.ins2651_ends.proofs.Calls.{writes-is, refused-or}
+use Rattle.ins2651_ends.proofs.Sending.{Sending, sending-end}
+use Rattle.ins2651_ends.proofs.Hearing.{Hearing, receiving-end}
+use Rattle.ins2651_ends.proofs.Untouched.{Untouched}
+use Rattle.delivery.specs.OneWay.{Deed, Ticks, Writes, Reads, Passes, later, Logged, noLog, permits}
 use Rattle.delivery.specs.OneWay as one-way
-use Rattle.delivery.specs.Promise.{Promised}
-use Rattle.delivery.specs.Ends.{senderAfter, receiverAfter, faults, hears, Begins}
-use Rattle.delivery.proofs.Delivery.{Fit, Idles}
-use Rattle.delivery.proofs.Carried.{way-delivers, way-idles}
+use Rattle.delivery.specs.Promise.{Idles, Promised}
+use Rattle.delivery.specs.Joined.{Side, A, B, other}
+use Rattle.delivery.specs.Ends.{Fit}
+use Rattle.delivery.proofs.Joined.{line-delivers, line-idles}
 use Rattle.joined_rules.specs.declared.Pair.{Pair}
 use Rattle.joined_rules.specs.Joining.{tick, ticks}
-use Rattle.joined_rules.specs.Bench.{unread, flagged, statusBit, Side, A, B, other, deviceAt, Step, Tick, At, allMoved, writing, reading, leavesSending, leavesReceiving, refusedOr, deedFrom, steadyFrom, wayFrom, Bench, clock, step, runs}
+use Rattle.joined_rules.specs.Bench.{deviceAt, Step, Tick, At, allMoved, deedFrom, wayFrom, Bench, seenFrom, clock, step, runs}
 use Rattle.joined_rules.specs.Demand3.{Settings, settingsAt, Proper, sends, receives, Agree, FromReset, Holds, FreshlySetUp, fresh, harmless, allowedCall, allowed, allAllowed, NoFlag, Right, Seen, Open}
-use Rattle.joined_rules.proofs.Calls.{of-writing, of-reading}
-use Rattle.joined_rules.proofs.Sending.{Sending, level-is}
-use Rattle.joined_rules.proofs.Hearing.{Hearing}
-use Rattle.joined_rules.proofs.SetUps.{Untouched, set-up-untouched, starts, no-break, listens, sends-so, receives-so}
-use Rattle.joined_rules.proofs.Ways.{side-sends, side-receives}
+use Rattle.joined_rules.proofs.SetUps.{set-up-untouched, starts, no-break, listens, sends-so, receives-so}
+use Rattle.joined_rules.proofs.Ways.{pair-joins}
 
 -- == one way ==
 
@@ -68,8 +64,7 @@ module _ (s : Side) (p : Pair) (us : List Step) (up : FromReset us) (opened : Op
   fit = record { bounds = in-range-bounds f (format-in (from .registers .mode1) (has 32 (from .registers .mode2))); alike = opened .alike }
 
   untouched : (t : Side) → Untouched (deviceAt t set)
-  untouched A = set-up-untouched A p us (up .calls) (up .a-reset)
-  untouched B = set-up-untouched B p us (up .calls) (up .b-reset)
+  untouched t = set-up-untouched t p us up
 
   sends-before : Sending f from
   sends-before =
@@ -83,100 +78,37 @@ module _ (s : Side) (p : Pair) (us : List Step) (up : FromReset us) (opened : Op
       let u = both (receiveEnable (to .registers .command)) (carrier to) (t .0) in
       record { within = untouched (other s) .within; enabled = u .0; carried = u .1; set = t .1; format = refl; no-errors = untouched (other s) .no-errors }
 
-  -- the one joined tick: the line is at mark, and the receiver begins to search
+  -- the one joined tick, and then any steps that are allowed on this way: demand 3 for it, whatever happens on the other
   abbrev start : Pair
   start = tick set .pair
 
-  deed-is : deedFrom s Tick ≡ Ticks
-  deed-is = side s
-    where
-      side : (s : Side) → deedFrom s Tick ≡ Ticks
-      side A = refl
-      side B = refl
-
-  steady : steadyFrom s set Tick ≡ true
-  steady = side s
-    where
-      side : (s : Side) → steadyFrom s set Tick ≡ true
-      side A = refl
-      side B = refl
-
-  sender-is : deviceAt s start .sender ≡ idleSender
-  unfolding link-transmitting.transmit
-  sender-is =
-      side-sends s f .follows set Tick sends-before steady
-      ∙ ap (λ (k : Deed). senderAfter f k (from .sender)) deed-is
-      ∙ ap (λ (h : SenderHalf). link-transmitting.transmit h true false f .half) (untouched s .sender)
-
-  mark : wayFrom s .level set ≡ true
-  unfolding link-transmitting.transmit
-  mark = level-is from sends-before ∙ ap (λ (h : SenderHalf). link-transmitting.transmit h true false f .level) (untouched s .sender)
-
-  -- what the receiving half hears first
-  abbrev after-mark : ReceiverHalf
-  after-mark = hears g true idleReceiver .half
-
-  receiver-is : deviceAt (other s) start .receiver ≡ after-mark
-  receiver-is =
-      side-receives s g .follows set Tick hears-before steady
-      ∙ ap (λ (k : Deed). receiverAfter g (wayFrom s .level set) k (to .receiver)) deed-is
-      ∙ ap₂ (λ (x : Bool) (h : ReceiverHalf). hears g x h .half) mark (untouched (other s) .receiver)
-
-  faultless : faults g (wayFrom s .level set) (deedFrom s Tick) (to .receiver) ≡ false
-  unfolding link-hearing.receive sample
-  faultless =
-      ap (λ (k : Deed). faults g (wayFrom s .level set) k (to .receiver)) deed-is
-      ∙ ap₂ (λ (x : Bool) (h : ReceiverHalf). faults g x Ticks h) mark (untouched (other s) .receiver)
-
-  searching-now : (r : ReceiverHalf) → r ≡ after-mark → (r .state ≡ searching) × (r .unread ≡ 0)
-  unfolding link-hearing.receive sample
-  searching-now r e = subst (λ (k : ReceiverHalf). (k .state ≡ searching) × (k .unread ≡ 0)) (sym e) (refl, refl)
-
-  begins : Begins (λ p. Sending f (deviceAt s p)) (λ p. Hearing g (deviceAt (other s) p)) (λ p. deviceAt s p .sender) (λ p. deviceAt (other s) p .receiver) start
-  begins =
-      let r = searching-now (deviceAt (other s) start .receiver) receiver-is in
-      record {
-        sends = side-sends s f .ready set Tick sends-before steady;
-        hears = side-receives s g .ready set Tick hears-before steady faultless;
-        idle = sender-is;
-        searches = r .0;
-        read = r .1;
-      }
-
-  -- then any steps that are allowed on this way: demand 3 for it, whatever happens on the other
-  module _ (ss : List Step) (ok : one-way.allAllowed (wayFrom s) (frameLength f) (begun start) ss ≡ true) where
-    pub one-way-right : Promised (wayFrom s) f (one-way.runs (wayFrom s) (begun start) ss)
-    one-way-right = way-delivers fit (side-sends s f) (side-receives s g) start begins ss ok
+  module _ (ss : List Step) (ok : one-way.allAllowed (wayFrom s) (frameLength f) (noLog start) ss ≡ true) where
+    pub one-way-right : Promised (wayFrom s) f (one-way.runs (wayFrom s) (noLog start) ss)
+    one-way-right =
+        line-delivers pair-joins fit s (sending-end f) (receiving-end g) set sends-before hears-before (untouched s .sender) (untouched (other s) .receiver) Tick refl ss ok
 
     -- 'idle', as the promise reads it from the log, is what it is in the device
-    pub one-way-idles : let end = one-way.runs (wayFrom s) (begun start) ss in Idles f (deviceAt s (end .bench) .sender) (end .now) (end .log .written)
-    one-way-idles = way-idles fit (side-sends s f) (side-receives s g) start begins ss ok
+    pub one-way-idles : let end = one-way.runs (wayFrom s) (noLog start) ss in Idles f (deviceAt s (end .bench) .sender) (end .now) (end .log .written)
+    one-way-idles =
+        line-idles pair-joins fit s (sending-end f) (receiving-end g) set sends-before hears-before (untouched s .sender) (untouched (other s) .receiver) Tick refl ss ok
 
 -- == the bench as two ways ==
 
--- what the bench keeps of one way
-abbrev pub seenFrom : Side → Bench → Logged Pair
-seenFrom A w = record { bench = w .pair; now = w .now; log = w .there }
-seenFrom B w = record { bench = w .pair; now = w .now; log = w .back }
-
 -- a call takes no time
-writing-now : (now : ℕ) (c : Call) → later now (writing c) ≡ now
-writing-now now c = of-writing (λ k. later now k ≡ now) c refl (λ v e. refl)
+call-now : (now v : ℕ) (b : Bool) → (later now (cond b (Writes v) Passes) ≡ now) × (later now (cond b Reads Passes) ≡ now)
+call-now now v true = (refl, refl)
+call-now now v false = (refl, refl)
 
-reading-now : (now : ℕ) (c : Call) → later now (reading c) ≡ now
-reading-now now c = of-reading (λ k. later now k ≡ now) c refl (λ e. refl)
-
-time-is : (s : Side) (now : ℕ) (x : Step) → later now (deedFrom s x) ≡ clock now x
-time-is A now Tick = refl
-time-is B now Tick = refl
-time-is A now (At A c) = writing-now now c
-time-is A now (At B c) = reading-now now c
-time-is B now (At A c) = reading-now now c
-time-is B now (At B c) = writing-now now c
+time-is : (s : Side) (now : ℕ) (p : Pair) (x : Step) → later now (deedFrom s p x) ≡ clock now x
+time-is s now p Tick = refl
+time-is A now p (At A c) = call-now now (valueOf c) (writes c) .0
+time-is A now p (At B c) = call-now now 0 (reads c) .1
+time-is B now p (At A c) = call-now now 0 (reads c) .1
+time-is B now p (At B c) = call-now now (valueOf c) (writes c) .0
 
 step-is : (s : Side) (w : Bench) (x : Step) → one-way.step (wayFrom s) (seenFrom s w) x ≡ seenFrom s (step w x)
-step-is A w x = ap (λ (k : ℕ). record { bench = step w x .pair; now = k; log = step w x .there }) (time-is A (w .now) x)
-step-is B w x = ap (λ (k : ℕ). record { bench = step w x .pair; now = k; log = step w x .back }) (time-is B (w .now) x)
+step-is A w x = ap (λ (k : ℕ). record { bench = step w x .pair; now = k; log = step w x .there }) (time-is A (w .now) (w .pair) x)
+step-is B w x = ap (λ (k : ℕ). record { bench = step w x .pair; now = k; log = step w x .back }) (time-is B (w .now) (w .pair) x)
 
 -- a run of the bench is a run of each way
 pub runs-is : (s : Side) (w : Bench) (ss : List Step) → one-way.runs (wayFrom s) (seenFrom s w) ss ≡ seenFrom s (runs w ss)
@@ -186,11 +118,7 @@ runs-is s w (x ∷ ss) = ap (λ (k : Logged Pair). one-way.runs (wayFrom s) k ss
 -- == what is allowed both ways is allowed each way ==
 
 weaker : (p q : Call → Bool) (d : Device) (c : Call) → (p c ≡ true → q c ≡ true) → refusedOr p d c ≡ true → refusedOr q d c ≡ true
-weaker p q d c h a = go (eqb (refusal d c) 0) refl
-  where
-    go : (b : Bool) → eqb (refusal d c) 0 ≡ b → refusedOr q d c ≡ true
-    go true e = rw e (h (rw e at a))
-    go false e = rw e
+weaker p q d c h a = refused-or p d c a (λ n t. rw n (h t)) (λ n. rw (ne-eqb (refusal d c) 0 n))
 
 -- what is allowed both ways leaves alone what either way rests on
 harmless-leaves : (d : Device) (c : Call) → harmless d c ≡ true → (leavesSending c ≡ true) × (leavesReceiving c ≡ true)
@@ -206,13 +134,13 @@ harmless-leaves d (Receive x) h = (refl, h)
 harmless-leaves d Outputs h = (refl, refl)
 
 -- a character is written only when it may be
-may-be-written : (L : ℕ) (w : Logged Pair) (s : Side) (c : Call) → allowedCall (deviceAt s (w .bench)) c ≡ true → permits (wayFrom s) L w (writing c) ≡ true
+may-be-written : (L : ℕ) (w : Logged Pair) (s : Side) (c : Call) → allowedCall (deviceAt s (w .bench)) c ≡ true → permits (wayFrom s) L w (cond (writes c) (Writes (valueOf c)) Passes) ≡ true
 unfolding writeRefusal
-may-be-written L w s c a = of-writing (λ k. permits (wayFrom s) L w k ≡ true) c refl (λ v e. ap (allowedCall (deviceAt s (w .bench))) (sym e) ∙ a)
+may-be-written L w s c a = each (λ (k : Deed). permits (wayFrom s) L w k ≡ true) (writes c) (λ t. ap (allowedCall (deviceAt s (w .bench))) (sym (writes-is c t)) ∙ a) (λ t. refl)
 
 -- a call at the other side is always permitted
-may-be-read : (L : ℕ) (w : Logged Pair) (s : Side) (c : Call) → permits (wayFrom s) L w (reading c) ≡ true
-may-be-read L w s c = of-reading (λ k. permits (wayFrom s) L w k ≡ true) c refl (λ e. refl)
+may-be-read : (L : ℕ) (w : Logged Pair) (s : Side) (c : Call) → permits (wayFrom s) L w (cond (reads c) Reads Passes) ≡ true
+may-be-read L w s c = either (λ (k : Deed). permits (wayFrom s) L w k ≡ true) (reads c) refl refl
 
 module _ (a b : Settings) where
   abbrev L : Side → ℕ
@@ -283,13 +211,12 @@ module _ (a b : Settings) (pa : Proper a) (pb : Proper b) (agree : Agree a b) (p
   agreed B = agree .back
 
   in-range : (s : Side) → inRange (deviceAt s after-set-up) ≡ true
-  in-range A = set-up-untouched A p us (up .from-reset .calls) (up .from-reset .a-reset) .within
-  in-range B = set-up-untouched B p us (up .from-reset .calls) (up .from-reset .b-reset) .within
+  in-range s = set-up-untouched s p us (up .from-reset) .within
 
-  sends-is : (s : Side) → sendFormat (deviceAt s after-set-up .registers) ≡ sends (settingsAt a b s)
+  pub sends-is : (s : Side) → sendFormat (deviceAt s after-set-up .registers) ≡ sends (settingsAt a b s)
   sends-is s = sends-so (settingsAt a b s) (deviceAt s after-set-up) (proper s) (in-range s) (holds s)
 
-  is-open : (s : Side) → Open s after-set-up
+  pub is-open : (s : Side) → Open s after-set-up
   is-open s =
       let d : Device = deviceAt s after-set-up in
       let e : Device = deviceAt (other s) after-set-up in
@@ -301,21 +228,21 @@ module _ (a b : Settings) (pa : Proper a) (pb : Proper b) (agree : Agree a b) (p
             (subst (Alike (sends (settingsAt a b s))) (sym (receives-so (settingsAt a b (other s)) e (proper (other s)) (in-range (other s)) (holds (other s)))) (agreed s));
       }
 
-  ok-each : (s : Side) → one-way.allAllowed (wayFrom s) (frameLength (sendFormat (deviceAt s after-set-up .registers))) (begun (fresh p us .pair)) ss ≡ true
-  ok-each s = ap (λ (f : Format). one-way.allAllowed (wayFrom s) (frameLength f) (begun (fresh p us .pair)) ss) (sends-is s) ∙ side s
+  pub ok-each : (s : Side) → one-way.allAllowed (wayFrom s) (frameLength (sendFormat (deviceAt s after-set-up .registers))) (noLog (fresh p us .pair)) ss ≡ true
+  ok-each s = ap (λ (f : Format). one-way.allAllowed (wayFrom s) (frameLength f) (noLog (fresh p us .pair)) ss) (sends-is s) ∙ side s
     where
-      side : (s : Side) → one-way.allAllowed (wayFrom s) (L a b s) (begun (fresh p us .pair)) ss ≡ true
+      side : (s : Side) → one-way.allAllowed (wayFrom s) (L a b s) (noLog (fresh p us .pair)) ss ≡ true
       side A = all-each-way a b A (fresh p us) ss ok
       side B = all-each-way a b B (fresh p us) ss ok
 
-  ends-as : (s : Side) → one-way.runs (wayFrom s) (begun (fresh p us .pair)) ss ≡ seenFrom s end
+  ends-as : (s : Side) → one-way.runs (wayFrom s) (noLog (fresh p us .pair)) ss ≡ seenFrom s end
   ends-as A = runs-is A (fresh p us) ss
   ends-as B = runs-is B (fresh p us) ss
 
   -- demand 3 is two one-way promises ..
-  pub each-way-right : (s : Side) → Promised (wayFrom s) (sends (settingsAt a b s)) (one-way.runs (wayFrom s) (begun (fresh p us .pair)) ss)
+  pub each-way-right : (s : Side) → Promised (wayFrom s) (sends (settingsAt a b s)) (one-way.runs (wayFrom s) (noLog (fresh p us .pair)) ss)
   each-way-right s =
-      subst (λ (f : Format). Promised (wayFrom s) f (one-way.runs (wayFrom s) (begun (fresh p us .pair)) ss)) (sends-is s)
+      subst (λ (f : Format). Promised (wayFrom s) f (one-way.runs (wayFrom s) (noLog (fresh p us .pair)) ss)) (sends-is s)
       (one-way-right s p us (up .from-reset) (is-open s) ss (ok-each s))
 
   -- .. by the bench's own logs
@@ -323,18 +250,11 @@ module _ (a b : Settings) (pa : Proper a) (pb : Proper b) (agree : Agree a b) (p
   bench-right s = subst (Promised (wayFrom s) (sends (settingsAt a b s))) (ends-as s) (each-way-right s)
 
   -- 'idle', as the promise reads it from the log, is what it is in the device
-  pub each-way-idles : (s : Side) → Idles (sends (settingsAt a b s)) (deviceAt s (seenFrom s end .bench) .sender) (end .now) (seenFrom s end .log .written)
-  each-way-idles s = side s
-    where
-      ended : (s : Side) → let w = seenFrom s end in Idles (sends (settingsAt a b s)) (deviceAt s (w .bench) .sender) (w .now) (w .log .written)
-      ended s =
-          subst (λ (w : Logged Pair). Idles (sends (settingsAt a b s)) (deviceAt s (w .bench) .sender) (w .now) (w .log .written)) (ends-as s)
-          (subst (λ (f : Format). let w = one-way.runs (wayFrom s) (begun (fresh p us .pair)) ss in Idles f (deviceAt s (w .bench) .sender) (w .now) (w .log .written)) (sends-is s)
-          (one-way-idles s p us (up .from-reset) (is-open s) ss (ok-each s)))
-
-      side : (s : Side) → Idles (sends (settingsAt a b s)) (deviceAt s (seenFrom s end .bench) .sender) (end .now) (seenFrom s end .log .written)
-      side A = ended A
-      side B = ended B
+  pub each-way-idles : (s : Side) → let w = seenFrom s end in Idles (sends (settingsAt a b s)) (deviceAt s (w .bench) .sender) (w .now) (w .log .written)
+  each-way-idles s =
+      subst (λ (w : Logged Pair). Idles (sends (settingsAt a b s)) (deviceAt s (w .bench) .sender) (w .now) (w .log .written)) (ends-as s)
+      (subst (λ (f : Format). let w = one-way.runs (wayFrom s) (noLog (fresh p us .pair)) ss in Idles f (deviceAt s (w .bench) .sender) (w .now) (w .log .written)) (sends-is s)
+      (one-way-idles s p us (up .from-reset) (is-open s) ss (ok-each s)))
 
   -- no flag is shown
   clean : (d : Device) → flagged d ≡ false → NoFlag d

@@ -18,8 +18,9 @@ use Rattle.ins2651_rules.specs.Runs.{Call, Write, SetPins, next, after}
 use Rattle.ins2651_rules.proofs.Settled.{settled-is, reset-in}
 use Rattle.ins2651_rules.proofs.Done.{does-write, does-pins}
 use Rattle.ins2651_rules.proofs.InRange.{next-in}
+use Rattle.delivery.specs.Joined.{A, B}
 use Rattle.joined_rules.specs.declared.Pair.{Pair}
-use Rattle.joined_rules.specs.Bench.{A, B, Step, At}
+use Rattle.joined_rules.specs.Bench.{Step, At}
 use Rattle.joined_rules.specs.Demand3.{Settings, Proper, sequence, Holds, FreshlySetUp}
 
 -- the registers just reset, but for an accepted mode 1 ..

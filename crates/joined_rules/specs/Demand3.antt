@@ -4,7 +4,7 @@
 -- Assumes nothing.
 use Prim.Native.Nat.{ℕ, _%_}
 use mathlib.Core.Path.{_≡_}
-use mathlib.Core.Bool.{Bool, true, false, cond, not, _&&_, _||_}
+use mathlib.Core.Bool.{Bool, true, false, cond, _&&_}
 use mathlib.Core.List.{List, [], _∷_}
 use lib.Dec.{ltb, eqb}
 use Rattle.line_rules.specs.declared.Format.{Format}
@@ -15,17 +15,20 @@ use Rattle.ins2651_rules.specs.Modes.{has, formatOf, sendFormat, receiveFormat}
 use Rattle.ins2651_rules.specs.Conditions.{mayStart, breakOn, listening}
 use Rattle.ins2651_rules.specs.Refusals.{mode1Refusal, commandRefusal}
 use Rattle.ins2651_rules.specs.RegisterWrites.{stored}
-use Rattle.ins2651_rules.specs.Runs.{Call, Reset, Write, SetPins, byCall, otherwise, atReset, atRead, atWrite, atPins, atTransmit, atReceive, atOutputs}
+use Rattle.ins2651_rules.specs.Runs.{Call, Reset, Write, SetPins, byCall, otherwise, atRead, atWrite, atPins, atOutputs}
+use Rattle.ins2651_ends.specs.OnALine.{statusBit, mayWrite, unread, refusedOr}
+use Rattle.ins2651_ends.specs.Fresh.{allQuiet, quietSinceReset}
 use Rattle.delivery.specs.Log.{nothingYet}
 use Rattle.delivery.specs.OneWay.{inTime}
 use Rattle.delivery.specs.Promise.{hasBegun, Delivered, Fetched, FirstWrites}
+use Rattle.delivery.specs.Joined.{Side, A, B, other}
 use Rattle.joined_rules.specs.declared.Pair.{Pair}
 use Rattle.joined_rules.specs.Joining.{tick}
-use Rattle.joined_rules.specs.Bench.{statusBit, mayWrite, unread, Side, A, B, other, deviceAt, Step, Tick, At, allMoved, refusedOr, Bench, step}
+use Rattle.joined_rules.specs.Bench.{deviceAt, Step, Tick, At, allMoved, Bench, step}
 
 -- == freshly set up ==
 
--- what stands in the mode and command registers of one side
+-- what was written last to mode 1, to mode 2 and to the command of one side
 pub record Settings : Type 0 where
   pub mode1 : ℕ
   pub mode2 : ℕ
@@ -63,34 +66,34 @@ pub record Agree (a b : Settings) : Type 0 where
 abbrev pub sequence : Settings → List Call
 sequence s = Reset ∷ Write 2 (s .mode1) ∷ Write 2 (s .mode2) ∷ Write 3 (s .command) ∷ SetPins 0 0 0 ∷ []
 
--- what a set-up may be made of: any call but a tick and a write of address 0, at either side
-abbrev pub setsUp : Step → Bool
-setsUp Tick = false
-setsUp (At s c) = byCall (atWrite (λ address v. not (eqb address 0)) (atTransmit false (atReceive (λ x. false) (otherwise true)))) c
+-- no joined tick is among the steps
+abbrev pub noTick : List Step → Bool
+noTick [] = true
+noTick (Tick ∷ us) = false
+noTick (At s c ∷ us) = noTick us
 
-abbrev pub allSetUp : List Step → Bool
-allSetUp [] = true
-allSetUp (u ∷ us) = setsUp u && allSetUp us
+-- the calls to one side
+abbrev pub callsAt : Side → List Step → List Call
+callsAt s [] = []
+callsAt s (Tick ∷ us) = callsAt s us
+callsAt A (At A c ∷ us) = c ∷ callsAt A us
+callsAt A (At B c ∷ us) = callsAt A us
+callsAt B (At A c ∷ us) = callsAt B us
+callsAt B (At B c ∷ us) = c ∷ callsAt B us
 
-abbrev pub isReset : Call → Bool
-isReset c = byCall (atReset true (otherwise false)) c
+-- calls alone, none of them a tick or a write of address 0
+pub record Quiet (us : List Step) : Type 0 where
+  pub calls : noTick us ≡ true
+  pub a-quiet : allQuiet (callsAt A us) ≡ true
+  pub b-quiet : allQuiet (callsAt B us) ≡ true
 
--- a reset of this side is among the steps
-abbrev pub resets : Side → List Step → Bool
-resets s [] = false
-resets s (Tick ∷ us) = resets s us
-resets A (At A c ∷ us) = isReset c || resets A us
-resets A (At B c ∷ us) = resets A us
-resets B (At A c ∷ us) = resets B us
-resets B (At B c ∷ us) = isReset c || resets B us
-
--- such calls, in any order and mixed in time between the two sides, with a reset of each
+-- a reset of each side, and behind it at that side any calls but ticks and writes of address 0; in any order, mixed in time between the two
 pub record FromReset (us : List Step) : Type 0 where
-  pub calls : allSetUp us ≡ true
-  pub a-reset : resets A us ≡ true
-  pub b-reset : resets B us ≡ true
+  pub calls : noTick us ≡ true
+  pub a-reset : quietSinceReset (callsAt A us) ≡ true
+  pub b-reset : quietSinceReset (callsAt B us) ≡ true
 
--- a side holds its settings, and its pins are low; bit 4 of a command is not stored
+-- a side holds its settings, and its pins are low. Bit 4 of a command, reset error, is done and not stored
 pub record Holds (s : Settings) (d : Device) : Type 0 where
   pub mode1 : d .registers .mode1 ≡ s .mode1
   pub mode2 : d .registers .mode2 ≡ s .mode2
@@ -99,13 +102,13 @@ pub record Holds (s : Settings) (d : Device) : Type 0 where
   pub dcd : d .pins .dcd ≡ 0
   pub cts : d .pins .cts ≡ 0
 
--- whatever the devices were, these steps leave each side with its settings
+-- these steps, from the devices p, leave each side with its settings; p is any two, in range or not
 pub record FreshlySetUp (a b : Settings) (p : Pair) (us : List Step) : Type 0 where
   pub from-reset : FromReset us
   pub a-holds : Holds a (allMoved p us .a)
   pub b-holds : Holds b (allMoved p us .b)
 
--- then one joined tick; no data is written before
+-- then one joined tick
 abbrev pub fresh : Pair → List Step → Bench
 fresh p us = record { pair = tick (allMoved p us) .pair; now = 0; there = nothingYet; back = nothingYet }
 

@@ -19,15 +19,17 @@ use Rattle.ins2651_rules.specs.Pinning.{pinned, setPins}
 use Rattle.ins2651_rules.specs.Ticks.{transmitTick, transmit, receiveTick, receive}
 use Rattle.ins2651_rules.specs.Runs as chip
 use Rattle.joined_rules.specs.Joining.{tick}
-use Rattle.joined_rules.specs.Bench.{A, B, Step, At}
+use Rattle.delivery.specs.Joined.{Side, A, B}
+use Rattle.joined_rules.specs.Bench.{Step, Tick, At}
+use Rattle.joined_rules.specs.Demand3.{settingsAt, sends}
 use Rattle.joined_rules.proofs.Concrete as bench
 use Rattle.fields.specs.Parted.{fieldOf, fieldsOf}
 use Rattle.fields.specs.Ascii.{bytes}
 use Rattle.records.specs.Records.{two, three, four, five}
-use Rattle.session_rules.specs.Calls.{freshPair, obey, lineReply, saidText}
+use Rattle.session_rules.specs.Calls.{obey, lineReply, saidText}
 use Rattle.rows.specs.Text.{decimal, refusalText, valueText, countsText, rowText}
 use Rattle.session_rules.specs.Whole.{linesOf, linesTaken, answerText}
-use Rattle.session_rules.specs.Delivered.{Meets, printed, Delivers}
+use Rattle.session_rules.specs.Delivered.{Parted, Meets, MeetsFrom, printed, Delivers}
 use Rattle.session_rules.proofs.Delivered.{text-delivers}
 
 -- document 01's session, and its whole output
@@ -51,22 +53,104 @@ pub worked-meets : Meets bench.worked bench.worked (linesTaken input)
 unfolding answerText linesTaken linesOf two three four five obey lineReply decimal refusalText valueText countsText rowText saidText fieldOf fieldsOf part oddOnes parityBit sample link-transmitting.transmit link-hearing.receive line-range.inRange senderInRange receiverInRange formatOf statusByte inRange settled writeRefusal readRegister read writeRegister write pinned setPins transmitTick transmit receiveTick receive tick
 worked-meets =
     record {
-      set-up = setting-up;
-      after = bench.session;
-      steps = refl;
-      calls = refl;
+      parted = record { set-up = setting-up; after = bench.session; steps = refl; quiet = record { calls = refl; a-quiet = refl; b-quiet = refl } };
       a-holds = record { mode1 = refl; mode2 = refl; command = refl; dsr = refl; dcd = refl; cts = refl };
       b-holds = record { mode1 = refl; mode2 = refl; command = refl; dsr = refl; dcd = refl; cts = refl };
       allowed = refl;
     }
 
 -- .. so what it prints for the read of address 0 is what was written
-pub worked-delivers : Delivers bench.worked bench.worked (linesTaken input) A
+pub worked-delivers : Delivers A (sends bench.worked) (linesTaken input)
 worked-delivers = text-delivers bench.worked bench.worked bench.worked-proper bench.worked-proper bench.worked-agrees (linesTaken input) worked-meets A
 
-pub worked-prints : printed A 1 freshPair (linesTaken input) ≡ bytes "R\tB\t0\t255\n" ∷ []
+pub worked-prints : printed A (linesTaken input) ≡ bytes "R\tB\t0\t255\n" ∷ []
 unfolding answerText linesTaken linesOf two three four five obey lineReply decimal refusalText valueText countsText rowText saidText fieldOf fieldsOf part oddOnes parityBit sample link-transmitting.transmit link-hearing.receive line-range.inRange senderInRange receiverInRange formatOf statusByte inRange settled writeRefusal readRegister read writeRegister write pinned setPins transmitTick transmit receiveTick receive tick
 worked-prints = refl
+
+-- == another session, both ways at once ==
+
+-- mixed in time, with a reset, a refused read, a line without shape and a command that is replaced; the first of three ticks ends the set-up; two
+-- characters one way and one the other, whose second read finds nothing unread
+abbrev mixed-input : List ℕ
+mixed-input =
+    bytes "Z\tA\nP\tB\t0\t0\t0\nW\tA\t2\t125\nW\tB\t3\t1\nR\tA\t9\nW\tA\t2\t0\nhello\nP\tA\t0\t0\t0\n"
+    ++ bytes "W\tB\t2\t253\nW\tA\t3\t5\nW\tB\t2\t15\nW\tB\t3\t21\nR\tA\t0\nL\t3\n"
+    ++ bytes "W\tA\t0\t193\nW\tB\t0\t90\nL\t1\nW\tA\t0\t194\nL\t11\nR\tB\t0\nR\tA\t0\nR\tA\t0\nL\t11\nR\tB\t0\n"
+
+abbrev mixed-lines : List (List ℕ)
+mixed-lines = linesTaken mixed-input
+
+abbrev mixed-parted : Parted mixed-lines
+unfolding answerText linesTaken linesOf two three four five obey lineReply decimal refusalText valueText countsText rowText saidText fieldOf fieldsOf part oddOnes parityBit sample link-transmitting.transmit link-hearing.receive line-range.inRange senderInRange receiverInRange formatOf statusByte inRange settled writeRefusal readRegister read writeRegister write pinned setPins transmitTick transmit receiveTick receive tick
+mixed-parted =
+    record {
+      set-up = At A chip.Reset ∷ At B (chip.SetPins 0 0 0) ∷ At A (chip.Write 2 125) ∷ At B (chip.Write 3 1) ∷ At A (chip.Read 9) ∷ At A (chip.Write 2 0)
+          ∷ At A (chip.SetPins 0 0 0) ∷ At B (chip.Write 2 253) ∷ At A (chip.Write 3 5) ∷ At B (chip.Write 2 15) ∷ At B (chip.Write 3 21) ∷ At A (chip.Read 0) ∷ [];
+      after = bench.after 2 (At A (chip.Write 0 193) ∷ At B (chip.Write 0 90) ∷ Tick ∷ At A (chip.Write 0 194)
+          ∷ bench.after 11 (At B (chip.Read 0) ∷ At A (chip.Read 0) ∷ At A (chip.Read 0) ∷ bench.after 11 (At B (chip.Read 0) ∷ [])));
+      steps = refl;
+      quiet = record { calls = refl; a-quiet = refl; b-quiet = refl };
+    }
+
+pub mixed-meets : Meets bench.one-stop bench.two-stops mixed-lines
+unfolding answerText linesTaken linesOf two three four five obey lineReply decimal refusalText valueText countsText rowText saidText fieldOf fieldsOf part oddOnes parityBit sample link-transmitting.transmit link-hearing.receive line-range.inRange senderInRange receiverInRange formatOf statusByte inRange settled writeRefusal readRegister read writeRegister write pinned setPins transmitTick transmit receiveTick receive tick
+mixed-meets =
+    record {
+      parted = mixed-parted;
+      a-holds = record { mode1 = refl; mode2 = refl; command = refl; dsr = refl; dcd = refl; cts = refl };
+      b-holds = record { mode1 = refl; mode2 = refl; command = refl; dsr = refl; dcd = refl; cts = refl };
+      allowed = refl;
+    }
+
+pub mixed-delivers : (s : Side) → Delivers s (sends (settingsAt bench.one-stop bench.two-stops s)) mixed-lines
+mixed-delivers = text-delivers bench.one-stop bench.two-stops bench.one-stop-proper bench.two-stops-proper bench.stops-agree mixed-lines mixed-meets
+
+pub mixed-answer : answerText mixed-input
+    ≡ bytes "E\t5\t1\nE\t7\t6\nR\tA\t0\t0\nR\tB\t0\t193\nR\tA\t0\t90\nR\tA\t0\t90\nR\tB\t0\t194\nN\t24\t2\n"
+unfolding answerText linesTaken linesOf two three four five obey lineReply decimal refusalText valueText countsText rowText saidText fieldOf fieldsOf part oddOnes parityBit sample link-transmitting.transmit link-hearing.receive line-range.inRange senderInRange receiverInRange formatOf statusByte inRange settled writeRefusal readRegister read writeRegister write pinned setPins transmitTick transmit receiveTick receive tick
+mixed-answer = refl
+
+pub mixed-prints : (printed A mixed-lines ≡ bytes "R\tB\t0\t193\n" ∷ bytes "R\tB\t0\t194\n" ∷ []) × (printed B mixed-lines ≡ bytes "R\tA\t0\t90\n" ∷ [])
+unfolding answerText linesTaken linesOf two three four five obey lineReply decimal refusalText valueText countsText rowText saidText fieldOf fieldsOf part oddOnes parityBit sample link-transmitting.transmit link-hearing.receive line-range.inRange senderInRange receiverInRange formatOf statusByte inRange settled writeRefusal readRegister read writeRegister write pinned setPins transmitTick transmit receiveTick receive tick
+mixed-prints = (refl, refl)
+
+-- == one way, whatever happens on the other ==
+
+-- the same units; a's first character is not read in time, and its status then shows an overrun. b reads in time, and gets what was written
+abbrev one-sided-input : List ℕ
+one-sided-input =
+    bytes "W\tA\t2\t125\nW\tA\t2\t0\nW\tA\t3\t5\nP\tA\t0\t0\t0\nW\tB\t2\t253\nW\tB\t2\t15\nW\tB\t3\t21\nP\tB\t0\t0\t0\nL\t1\n"
+    ++ bytes "W\tA\t0\t193\nW\tB\t0\t90\nL\t1\nW\tB\t0\t91\nL\t20\nR\tB\t0\nL\t3\nR\tA\t1\nR\tA\t0\nW\tA\t0\t194\nL\t11\nR\tB\t0\n"
+
+abbrev one-sided-lines : List (List ℕ)
+one-sided-lines = linesTaken one-sided-input
+
+pub one-sided-answer : answerText one-sided-input
+    ≡ bytes "R\tB\t0\t193\nR\tA\t1\t215\nR\tA\t0\t91\nR\tB\t0\t194\nN\t21\t0\n"
+unfolding answerText linesTaken linesOf two three four five obey lineReply decimal refusalText valueText countsText rowText saidText fieldOf fieldsOf part oddOnes parityBit sample link-transmitting.transmit link-hearing.receive line-range.inRange senderInRange receiverInRange formatOf statusByte inRange settled writeRefusal readRegister read writeRegister write pinned setPins transmitTick transmit receiveTick receive tick
+one-sided-answer = refl
+
+pub one-sided-meets : MeetsFrom A one-sided-lines
+unfolding answerText linesTaken linesOf two three four five obey lineReply decimal refusalText valueText countsText rowText saidText fieldOf fieldsOf part oddOnes parityBit sample link-transmitting.transmit link-hearing.receive line-range.inRange senderInRange receiverInRange formatOf statusByte inRange settled writeRefusal readRegister read writeRegister write pinned setPins transmitTick transmit receiveTick receive tick
+one-sided-meets =
+    record {
+      parted = record {
+        set-up = At A (chip.Write 2 125) ∷ At A (chip.Write 2 0) ∷ At A (chip.Write 3 5) ∷ At A (chip.SetPins 0 0 0)
+            ∷ At B (chip.Write 2 253) ∷ At B (chip.Write 2 15) ∷ At B (chip.Write 3 21) ∷ At B (chip.SetPins 0 0 0) ∷ [];
+        after = At A (chip.Write 0 193) ∷ At B (chip.Write 0 90) ∷ Tick ∷ At B (chip.Write 0 91) ∷ bench.after 20 (At B (chip.Read 0)
+            ∷ bench.after 3 (At A (chip.Read 1) ∷ At A (chip.Read 0) ∷ At A (chip.Write 0 194) ∷ bench.after 11 (At B (chip.Read 0) ∷ [])));
+        steps = refl;
+        quiet = record { calls = refl; a-quiet = refl; b-quiet = refl };
+      };
+      opened = record { starts = refl; no-break = refl; listens = refl; alike = bench.stops-agree .there };
+      allowed = refl;
+    }
+
+pub one-sided-prints : printed A one-sided-lines ≡ bytes "R\tB\t0\t193\n" ∷ bytes "R\tB\t0\t194\n" ∷ []
+unfolding answerText linesTaken linesOf two three four five obey lineReply decimal refusalText valueText countsText rowText saidText fieldOf fieldsOf part oddOnes parityBit sample link-transmitting.transmit link-hearing.receive line-range.inRange senderInRange receiverInRange formatOf statusByte inRange settled writeRefusal readRegister read writeRegister write pinned setPins transmitTick transmit receiveTick receive tick
+one-sided-prints = refl
+
+-- == edges ==
 
 -- an empty input gives N 0 0
 pub empty : answerText [] ≡ bytes "N\t0\t0\n"

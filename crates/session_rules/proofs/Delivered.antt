@@ -5,31 +5,35 @@ use mathlib.Core.Path.{_≡_, refl, sym, ap, ap₂, subst, _∙_}
 use mathlib.Core.Bool.{Bool, true, false, cond, _&&_, false≢true}
 use mathlib.Core.List.{List, [], _∷_, _++_, map, map-append}
 use lib.Dec.{eqb, leb}
-use lib.ListN.{replicate}
+use lib.ListN.{replicate, length}
 use borrow.Author.Tests.{eqb-true}
+use Rattle.line_rules.specs.declared.Format.{Format}
+use Rattle.line_rules.proofs.Choice.{either}
 use Rattle.line_rules.proofs.Table.{both}
 use Rattle.fields.specs.Parted.{fieldsOf}
 use Rattle.ins2651_rules.specs.Runs as chip
 use Rattle.ins2651_rules.specs.RegisterReads.{readRegister, read}
+use Rattle.ins2651_ends.specs.OnALine.{unread, character, writes, reads}
 use Rattle.delivery.specs.OneWay.{Deed, Ticks, Writes, Reads, Passes, getting, puts, gets}
 use Rattle.delivery.specs.Promise.{InOrder}
+use Rattle.delivery.specs.Joined.{Side, A, B, other}
 use Rattle.joined_rules.specs.declared.Pair.{Pair}
-use Rattle.joined_rules.specs.Bench.{unread, character, Side, A, B, other, deviceAt, Step, Tick, At, moved, allMoved, writing, reading, deedFrom, wayFrom}
+use Rattle.joined_rules.specs.Bench.{deviceAt, Step, Tick, At, moved, allMoved, justReset, deedFrom, wayFrom}
 use Rattle.joined_rules.specs.Demand3.{Settings, settingsAt, Proper, sends, Agree}
-use Rattle.joined_rules.proofs.Calls.{of-writing}
-use Rattle.joined_rules.proofs.Order.{run-in-order}
+use Rattle.joined_rules.proofs.Order.{one-way-in-order, run-in-order}
 use Rattle.records.specs.declared.Record.{Record}
 use Rattle.records.specs.declared.Record.the-variants.{Write, Read, Pins, Reset, Shapeless}
 use Rattle.records.specs.declared.Record.the-variants as record-of
 use Rattle.records.specs.Records.{aUnit, recordOf}
 use Rattle.records.specs.Printed.{proper}
 use Rattle.records.proofs.Parser.{reads-printed}
-use Rattle.rows.specs.Text.{rowText, valueText}
+use Rattle.rows.specs.Text.{rowText, valueText, countsText}
 use Rattle.session_rules.specs.declared.Said.{Said}
-use Rattle.session_rules.specs.Calls.{freshPair, obey, lineReply, saidText}
+use Rattle.session_rules.specs.Calls.{obey, lineReply, saidText}
 use Rattle.session_rules.specs.Rows.{overlong, shapeless}
 use Rattle.session_rules.specs.Steps.{side, recordSteps, lineSteps, allSteps}
-use Rattle.session_rules.specs.Delivered.{Meets, unitOf, isRead, fetches, printed, Delivers}
+use Rattle.session_rules.specs.Whole.{linesTaken, answers, refusals, texts, answerText}
+use Rattle.session_rules.specs.Delivered.{Meets, formatFrom, MeetsFrom, lineTexts, unitOf, isRead, fetches, fetching, marked, Delivers}
 use Rattle.session_rules.proofs.Lines.{line-moves}
 
 -- == one line ==
@@ -37,8 +41,8 @@ use Rattle.session_rules.proofs.Lines.{line-moves}
 -- what the steps get before others
 gets-append : (s : Side) (p : Pair) (xs ys : List Step) → gets (wayFrom s) p (xs ++ ys) ≡ gets (wayFrom s) p xs ++ gets (wayFrom s) (allMoved p xs) ys
 gets-append s p [] ys = refl
-gets-append s p (x ∷ xs) ys = ap (getting (unread (deviceAt (other s) p)) (character (deviceAt (other s) p)) (deedFrom s x)) (gets-append s (moved p x) xs ys)
-    ∙ getting-append (unread (deviceAt (other s) p)) (deedFrom s x)
+gets-append s p (x ∷ xs) ys = ap (getting (unread (deviceAt (other s) p)) (character (deviceAt (other s) p)) (deedFrom s p x)) (gets-append s (moved p x) xs ys)
+    ∙ getting-append (unread (deviceAt (other s) p)) (deedFrom s p x)
   where
     vs : List ℕ
     vs = gets (wayFrom s) (moved p x) xs
@@ -85,28 +89,25 @@ read-said A n p = refl
 read-said B n p = refl
 
 -- a read on the way from this side is one of address 0 at the other
-at-read : (s : Side) (unit address : ℕ) → aUnit unit ≡ true → isRead (deedFrom s (At (side unit) (chip.Read address))) ≡ true → (unit ≡ unitOf (other s)) × (address ≡ 0)
-at-read s unit address h r = by-unit s (eqb unit 65) refl r
+at-read : (s : Side) (p : Pair) (unit address : ℕ) → aUnit unit ≡ true → isRead (deedFrom s p (At (side unit) (chip.Read address))) ≡ true → (unit ≡ unitOf (other s)) × (address ≡ 0)
+at-read s p unit address h r = by-unit s (eqb unit 65) refl r
   where
     zero-is : (t : Bool) → eqb address 0 ≡ t → isRead (cond t Reads Passes) ≡ true → address ≡ 0
     zero-is true e q = eqb-true address 0 e
     zero-is false e q = absurd (false≢true q)
 
-    by-unit : (s : Side) (t : Bool) → eqb unit 65 ≡ t → isRead (deedFrom s (At (side unit) (chip.Read address))) ≡ true → (unit ≡ unitOf (other s)) × (address ≡ 0)
+    by-unit : (s : Side) (t : Bool) → eqb unit 65 ≡ t → isRead (deedFrom s p (At (side unit) (chip.Read address))) ≡ true → (unit ≡ unitOf (other s)) × (address ≡ 0)
     by-unit A true e q = absurd (false≢true (rw e at q))
     by-unit A false e q = (eqb-true unit 66 (rw e at h), zero-is (eqb address 0) refl (rw e at q))
     by-unit B true e q = (eqb-true unit 65 e, zero-is (eqb address 0) refl (rw e at q))
     by-unit B false e q = absurd (false≢true (rw e at q))
 
 -- no other call is a read
-no-writing : (c : chip.Call) → isRead (writing c) ≡ false
-no-writing c = of-writing (λ k. isRead k ≡ false) c refl (λ v e. refl)
-
-no-read : (s : Side) (t : Side) (c : chip.Call) → isRead (reading c) ≡ false → isRead (deedFrom s (At t c)) ≡ false
-no-read A A c h = no-writing c
-no-read A B c h = h
-no-read B A c h = h
-no-read B B c h = no-writing c
+no-read : (s t : Side) (p : Pair) (c : chip.Call) → reads c ≡ false → isRead (deedFrom s p (At t c)) ≡ false
+no-read A A p c h = either (λ (k : Deed). isRead k ≡ false) (writes c) refl refl
+no-read A B p c h = rw h
+no-read B A p c h = rw h
+no-read B B p c h = either (λ (k : Deed). isRead k ≡ false) (writes c) refl refl
 
 module _ (s : Side) (n : ℕ) (p : Pair) (rest : List (List ℕ)) where
   abbrev unit : ℕ
@@ -117,10 +118,10 @@ module _ (s : Side) (n : ℕ) (p : Pair) (rest : List (List ℕ)) where
   Prints xs said = cond (fetches s p xs) (saidText n said ∷ rest) rest ≡ map (valueText unit 0) (gets (wayFrom s) p xs) ++ rest
 
   -- a call that is no read
-  silent : (t : Side) (c : chip.Call) (said : Said) → isRead (reading c) ≡ false → Prints (At t c ∷ []) said
+  silent : (t : Side) (c : chip.Call) (said : Said) → reads c ≡ false → Prints (At t c ∷ []) said
   silent t c said h =
-      let z = no-read s t c h in
-      rw z (ap (λ (vs : List ℕ). map (valueText unit 0) vs ++ rest) (sym (gets-none (unread (deviceAt (other s) p)) (character (deviceAt (other s) p)) (deedFrom s (At t c)) z)))
+      let z = no-read s t p c h in
+      rw z (ap (λ (vs : List ℕ). map (valueText unit 0) vs ++ rest) (sym (gets-none (unread (deviceAt (other s) p)) (character (deviceAt (other s) p)) (deedFrom s p (At t c)) z)))
 
   ticks-print : (k : ℕ) (said : Said) → Prints (replicate k Tick) said
   ticks-print zero said = refl
@@ -133,9 +134,9 @@ module _ (s : Side) (n : ℕ) (p : Pair) (rest : List (List ℕ)) where
   record-prints : (r : Record) → (shapeless r ≡ false → proper r ≡ true) → Prints (recordSteps r) (obey p r .said)
   record-prints (Write u address v) h = silent (side u) (chip.Write address v) (obey p (Write u address v) .said) refl
   record-prints (Read u address) h =
-      one-step unit (character (deviceAt (other s) p)) (deedFrom s (At (side u) (chip.Read address))) (unread (deviceAt (other s) p))
+      one-step unit (character (deviceAt (other s) p)) (deedFrom s p (At (side u) (chip.Read address))) (unread (deviceAt (other s) p))
       (saidText n (obey p (Read u address) .said)) rest
-      (λ r. let e = at-read s u address (both (aUnit u) (leb address 255) (h refl) .0) r in
+      (λ r. let e = at-read s p u address (both (aUnit u) (leb address 255) (h refl) .0) r in
       ap₂ (λ (x y : ℕ). saidText n (obey p (Read x y) .said)) (e .0) (e .1) ∙ read-said (other s) n p)
   record-prints (Pins u dsr dcd cts) h = silent (side u) (chip.SetPins dsr dcd cts) (obey p (Pins u dsr dcd cts) .said) refl
   record-prints (Reset u) h = silent (side u) chip.Reset (obey p (Reset u) .said) refl
@@ -158,24 +159,61 @@ module _ (s : Side) (n : ℕ) (p : Pair) (rest : List (List ℕ)) where
 
 -- == all lines ==
 
-prints-gets : (s : Side) (n : ℕ) (p : Pair) (ls : List (List ℕ)) → printed s n p ls ≡ map (valueText (unitOf (other s)) 0) (gets (wayFrom s) p (allSteps ls))
+marked-first : {X : Type 0} (t : Bool) (bs : List Bool) (x : X) (xs : List X) → marked (t ∷ bs) (x ∷ xs) ≡ cond t (x ∷ marked bs xs) (marked bs xs)
+marked-first true bs x xs = refl
+marked-first false bs x xs = refl
+
+prints-gets : (s : Side) (n : ℕ) (p : Pair) (ls : List (List ℕ))
+    → marked (fetching s p ls) (lineTexts n p ls) ≡ map (valueText (unitOf (other s)) 0) (gets (wayFrom s) p (allSteps ls))
 prints-gets s n p [] = refl
 prints-gets s n p (l ∷ ls) =
-    let rest : List (List ℕ) = printed s (suc n) (lineReply p l .pair) ls in
+    let after : Pair = lineReply p l .pair in
+    let rest : List (List ℕ) = marked (fetching s after ls) (lineTexts (suc n) after ls) in
     let here : List ℕ = gets (wayFrom s) p (lineSteps l) in
     let later : List ℕ = gets (wayFrom s) (allMoved p (lineSteps l)) (allSteps ls) in
-    line-prints s n p rest l
+    marked-first (fetches s p (lineSteps l)) (fetching s after ls) (saidText n (lineReply p l .said)) (lineTexts (suc n) after ls)
+    ∙ line-prints s n p rest l
     ∙ ap (λ (ts : List (List ℕ)). map (valueText (unitOf (other s)) 0) here ++ ts)
-    (prints-gets s (suc n) (lineReply p l .pair) ls ∙ ap (λ (q : Pair). map (valueText (unitOf (other s)) 0) (gets (wayFrom s) q (allSteps ls))) (sym (line-moves p l)))
+    (prints-gets s (suc n) after ls ∙ ap (λ (q : Pair). map (valueText (unitOf (other s)) 0) (gets (wayFrom s) q (allSteps ls))) (sym (line-moves p l)))
     ∙ sym (map-append (valueText (unitOf (other s)) 0) here later)
     ∙ ap (map (valueText (unitOf (other s)) 0)) (sym (gets-append s p (lineSteps l) (allSteps ls)))
 
--- both ways
-pub text-delivers : (a b : Settings) → Proper a → Proper b → Agree a b → (lines : List (List ℕ)) → Meets a b lines → (s : Side) → Delivers a b lines s
-text-delivers a b pa pb agree lines m s =
+-- what is read in order is shown in order
+shows : (s : Side) (f : Format) (lines : List (List ℕ)) {xs : List Step} → allSteps lines ≡ xs
+    → InOrder f (gets (wayFrom s) justReset xs) (puts (wayFrom s) justReset xs) → Delivers s f lines
+shows s f lines e h =
     record {
-      values = gets (wayFrom s) freshPair (allSteps lines);
-      shown = prints-gets s 1 freshPair lines;
-      in-order = subst (λ (xs : List Step). InOrder (sends (settingsAt a b s)) (gets (wayFrom s) freshPair xs) (puts (wayFrom s) freshPair xs)) (sym (m .steps))
-          (run-in-order a b pa pb agree (m .set-up) (m .after) (m .calls) (m .a-holds) (m .b-holds) (m .allowed) s);
+      values = gets (wayFrom s) justReset (allSteps lines);
+      shown = prints-gets s 1 justReset lines;
+      in-order = subst (λ (ys : List Step). InOrder f (gets (wayFrom s) justReset ys) (puts (wayFrom s) justReset ys)) (sym e) h;
     }
+
+-- one way, whatever happens on the other
+pub one-way-text-delivers : (s : Side) (lines : List (List ℕ)) (m : MeetsFrom s lines) → Delivers s (formatFrom s (m .parted)) lines
+one-way-text-delivers s lines m =
+    let l = m .parted in
+    shows s (formatFrom s l) lines (l .steps) (one-way-in-order (l .set-up) (l .quiet) s (m .opened) (l .after) (m .allowed))
+
+-- both at once
+pub text-delivers : (a b : Settings) → Proper a → Proper b → Agree a b → (lines : List (List ℕ)) → Meets a b lines → (s : Side) → Delivers s (sends (settingsAt a b s)) lines
+text-delivers a b pa pb agree lines m s =
+    let l = m .parted in
+    shows s (sends (settingsAt a b s)) lines (l .steps) (run-in-order (l .set-up) (l .quiet) a b pa pb agree (m .a-holds) (m .b-holds) (l .after) (m .allowed) s)
+
+-- == the output ==
+
+abbrev pub joined : List (List ℕ) → List ℕ
+joined [] = []
+joined (t ∷ ts) = t ++ joined ts
+
+texts-are : (n : ℕ) (p : Pair) (ls : List (List ℕ)) → texts n (answers p ls) ≡ joined (lineTexts n p ls)
+texts-are n p [] = refl
+texts-are n p (l ∷ ls) = ap (λ (t : List ℕ). saidText n (lineReply p l .said) ++ t) (texts-are (suc n) (lineReply p l .pair) ls)
+
+-- the texts of the lines, one after another, are the session's output up to the counts
+pub output-is : (input : List ℕ) → let lines = linesTaken input in
+    answerText input ≡ joined (lineTexts 1 justReset lines) ++ countsText (length lines) (refusals (answers justReset lines))
+unfolding answerText
+output-is input =
+    let lines : List (List ℕ) = linesTaken input in
+    ap (λ (t : List ℕ). t ++ countsText (length lines) (refusals (answers justReset lines))) (texts-are 1 justReset lines)

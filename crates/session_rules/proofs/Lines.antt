@@ -13,7 +13,8 @@ use Rattle.ins2651_rules.specs.declared.Device.{Device}
 use Rattle.ins2651_rules.specs.Runs as chip
 use Rattle.ins2651_rules.proofs.Refused.{given-exactly, answers-refusal, refused-unchanged}
 use Rattle.joined_rules.specs.declared.Pair.{Pair}
-use Rattle.joined_rules.specs.Bench.{A, B, Step, At, moved, allMoved}
+use Rattle.delivery.specs.Joined.{A, B}
+use Rattle.joined_rules.specs.Bench.{Step, At, moved, allMoved}
 use Rattle.joined_rules.proofs.Promised.{ticks-are-the-run}
 use Rattle.line_rules.specs.Sending.{bit}
 use Rattle.line_rules.proofs.Choice.{each}
@@ -114,7 +115,7 @@ as-many-answers p (l ∷ ls) = ap suc (as-many-answers (lineReply p l .pair) ls)
 
 -- == steps of the bench ==
 
-pub moved-append : (p : Pair) (ss ts : List Step) → allMoved p (ss ++ ts) ≡ allMoved (allMoved p ss) ts
+moved-append : (p : Pair) (ss ts : List Step) → allMoved p (ss ++ ts) ≡ allMoved (allMoved p ss) ts
 moved-append p [] ts = refl
 moved-append p (s ∷ ss) ts = moved-append (moved p s) ss ts
 

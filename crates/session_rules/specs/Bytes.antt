@@ -8,14 +8,16 @@ use lib.Dec.{eqb, ltb}
 use lib.ListN.{length}
 use Rattle.fields.specs.Reading as reading
 use Rattle.fields.specs.Reading.{empty, push}
+use Rattle.joined_rules.specs.Bench.{justReset}
 use Rattle.session_rules.specs.declared.Reply.{Reply}
 use Rattle.session_rules.specs.declared.Session.{Session}
 use Rattle.records.specs.Records.{heldRecord}
-use Rattle.session_rules.specs.Calls.{freshPair, refused, obey, number, saidText}
+use Rattle.session_rules.specs.Calls.{refused, obey, number, saidText}
 use Rattle.rows.specs.Text.{countsText}
 
+-- both devices as after reset
 abbrev pub fresh : Session
-fresh = record { pair = freshPair; lines = 0; refusals = 0; length = 0; fields = empty }
+fresh = record { pair = justReset; lines = 0; refusals = 0; length = 0; fields = empty }
 
 -- == the line under way ==
 

@@ -25,10 +25,6 @@ use Rattle.session_rules.specs.declared.Said.the-variants.{Nothing, Valu
 use Rattle.session_rules.specs.declared.Reply.{Reply}
 use Rattle.records.specs.Records.{recordOf}
 
--- both devices begin as after reset
-abbrev pub freshPair : Pair
-freshPair = record { a = resetDevice; b = resetDevice }
-
 -- == one unit of the two ==
 
 -- A, or else B

@@ -4,32 +4,58 @@
 use Prim.Native.Nat.{ℕ, suc}
 use Prim.Native.Char.{code}
 use mathlib.Core.Path.{_≡_}
-use mathlib.Core.Bool.{Bool, true, false, cond, _&&_}
+use mathlib.Core.Bool.{Bool, true, false, _&&_}
 use mathlib.Core.List.{List, [], _∷_, _++_, map}
 use Rattle.line_rules.specs.declared.Format.{Format}
-use Rattle.delivery.specs.OneWay.{Deed, Ticks, Writes, Reads, Passes, puts}
+use Rattle.line_rules.specs.Sending.{frameLength}
+use Rattle.ins2651_rules.specs.Modes.{sendFormat}
+use Rattle.ins2651_ends.specs.OnALine.{unread}
+use Rattle.delivery.specs.OneWay.{Deed, Ticks, Writes, Reads, Passes, noLog, puts}
+use Rattle.delivery.specs.OneWay as one-way
 use Rattle.delivery.specs.Promise.{InOrder}
+use Rattle.delivery.specs.Joined.{Side, A, B, other}
 use Rattle.joined_rules.specs.declared.Pair.{Pair}
-use Rattle.joined_rules.specs.Bench.{unread, Side, A, B, other, deviceAt, Step, Tick, allMoved, deedFrom, wayFrom}
-use Rattle.joined_rules.specs.Demand3.{Settings, settingsAt, sends, allSetUp, Holds, fresh, allAllowed}
+use Rattle.joined_rules.specs.Joining.{tick}
+use Rattle.joined_rules.specs.Bench.{deviceAt, Step, Tick, allMoved, justReset, deedFrom, wayFrom}
+use Rattle.joined_rules.specs.Demand3.{Settings, sends, Quiet, Holds, fresh, allAllowed, Open}
 use Rattle.rows.specs.Text.{valueText}
-use Rattle.session_rules.specs.Calls.{freshPair, lineReply, saidText}
+use Rattle.session_rules.specs.Calls.{lineReply, saidText}
 use Rattle.session_rules.specs.Steps.{lineSteps, allSteps}
 
 -- == the premises ==
 
--- both units begin as after reset. The steps of the lines are those of a set-up (no tick, no write of address 0, in any order), which leaves each
--- unit with its settings; one joined tick; and steps that demand 3 allows
-pub record Meets (a b : Settings) (lines : List (List ℕ)) : Type 0 where
+-- both units begin as after reset. The steps of the lines are those of a set-up (no tick, no write of address 0, in any order), one joined tick,
+-- and others. A line that is refused for itself is no step; a line of joined ticks may begin with that one
+pub record Parted (lines : List (List ℕ)) : Type 0 where
   pub set-up : List Step
   pub after : List Step
   pub steps : allSteps lines ≡ set-up ++ Tick ∷ after
-  pub calls : allSetUp set-up ≡ true
-  pub a-holds : Holds a (allMoved freshPair set-up .a)
-  pub b-holds : Holds b (allMoved freshPair set-up .b)
-  pub allowed : allAllowed a b (fresh freshPair set-up) after ≡ true
+  pub quiet : Quiet set-up
+
+-- both ways: the set-up leaves each unit with its settings, and the others are steps that demand 3 allows
+pub record Meets (a b : Settings) (lines : List (List ℕ)) : Type 0 where
+  pub parted : Parted lines
+  pub a-holds : Holds a (allMoved justReset (parted .set-up) .a)
+  pub b-holds : Holds b (allMoved justReset (parted .set-up) .b)
+  pub allowed : allAllowed a b (fresh justReset (parted .set-up)) (parted .after) ≡ true
+
+-- the format in which this side sends then
+abbrev pub formatFrom : {lines : List (List ℕ)} → Side → Parted lines → Format
+formatFrom s l = sendFormat (deviceAt s (allMoved justReset (l .set-up)) .registers)
+
+-- one way: the set-up leaves the way from this side open, and the others are steps that are allowed on it
+pub record MeetsFrom (s : Side) (lines : List (List ℕ)) : Type 0 where
+  pub parted : Parted lines
+  pub opened : Open s (allMoved justReset (parted .set-up))
+  pub allowed : one-way.allAllowed (wayFrom s) (frameLength (formatFrom s parted)) (noLog (tick (allMoved justReset (parted .set-up)) .pair)) (parted .after) ≡ true
 
 -- == what is printed ==
+
+-- the text of each line, in turn; the first has the number n. One after another, with the counts behind them, they are the session's output
+-- (proofs/Delivered.antt, `output-is`)
+abbrev pub lineTexts : ℕ → Pair → List (List ℕ) → List (List ℕ)
+lineTexts n p [] = []
+lineTexts n p (l ∷ ls) = saidText n (lineReply p l .said) ∷ lineTexts (suc n) (lineReply p l .pair) ls
 
 abbrev pub unitOf : Side → ℕ
 unitOf A = code "A"
@@ -44,23 +70,32 @@ isRead Passes = false
 -- a line of these steps reads address 0 at the side that hears this one, while bit 1 is 1 there
 abbrev pub fetches : Side → Pair → List Step → Bool
 fetches s p [] = false
-fetches s p (x ∷ xs) = isRead (deedFrom s x) && unread (deviceAt (other s) p)
+fetches s p (x ∷ xs) = isRead (deedFrom s p x) && unread (deviceAt (other s) p)
 
--- the texts that the session prints for such lines, in turn; the first of all the lines has the number n
-abbrev pub printed : Side → ℕ → Pair → List (List ℕ) → List (List ℕ)
-printed s n p [] = []
-printed s n p (l ∷ ls) =
-    cond (fetches s p (lineSteps l))
-    (saidText n (lineReply p l .said) ∷ printed s (suc n) (lineReply p l .pair) ls)
-    (printed s (suc n) (lineReply p l .pair) ls)
+-- which lines do so, in turn
+abbrev pub fetching : Side → Pair → List (List ℕ) → List Bool
+fetching s p [] = []
+fetching s p (l ∷ ls) = fetches s p (lineSteps l) ∷ fetching s (lineReply p l .pair) ls
+
+-- those that are marked
+abbrev pub marked : {X : Type 0} → List Bool → List X → List X
+marked [] xs = []
+marked (b ∷ bs) [] = []
+marked (true ∷ bs) (x ∷ xs) = x ∷ marked bs xs
+marked (false ∷ bs) (x ∷ xs) = marked bs xs
+
+-- the texts of such lines
+abbrev pub printed : Side → List (List ℕ) → List (List ℕ)
+printed s lines = marked (fetching s justReset lines) (lineTexts 1 justReset lines)
 
 -- == the promise ==
 
--- `R`, unit, 0 and a value each; the values are a beginning of those that the lines write at the other unit, cut, in order
+-- `R`, unit, 0 and a value each; the values are a beginning of those that were written, cut, in order
 pub record Shows (f : Format) (unit : ℕ) (texts : List (List ℕ)) (written : List ℕ) : Type 0 where
   pub values : List ℕ
   pub shown : texts ≡ map (valueText unit 0) values
   pub in-order : InOrder f values written
 
-abbrev pub Delivers : Settings → Settings → List (List ℕ) → Side → Type 0
-Delivers a b lines s = Shows (sends (settingsAt a b s)) (unitOf (other s)) (printed s 1 freshPair lines) (puts (wayFrom s) freshPair (allSteps lines))
+-- from the side s, which sends in the format f: the texts are of the other unit, and the values those that the lines write at s
+abbrev pub Delivers : Side → Format → List (List ℕ) → Type 0
+Delivers s f lines = Shows f (unitOf (other s)) (printed s lines) (puts (wayFrom s) justReset (allSteps lines))

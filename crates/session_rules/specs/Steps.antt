@@ -9,7 +9,8 @@ use lib.ListN.{replicate}
 use Rattle.fields.specs.Parted.{fieldsOf}
 use Rattle.ins2651_rules.specs.Runs as chip
 use Rattle.joined_rules.specs.declared.Pair.{Pair}
-use Rattle.joined_rules.specs.Bench.{Side, A, B, Step, Tick, At}
+use Rattle.delivery.specs.Joined.{Side, A, B}
+use Rattle.joined_rules.specs.Bench.{Step, Tick, At}
 use Rattle.records.specs.declared.Record.{Record}
 use Rattle.records.specs.declared.Record.the-variants.{Write, Read, Pins, Reset, Ticks, Shapeless}
 use Rattle.records.specs.Records.{recordOf}

@@ -8,8 +8,9 @@ use lib.Dec.{ltb}
 use lib.ListN.{length, take}
 use Rattle.fields.specs.Parted.{parts}
 use Rattle.joined_rules.specs.declared.Pair.{Pair}
+use Rattle.joined_rules.specs.Bench.{justReset}
 use Rattle.session_rules.specs.declared.Said.{Said}
-use Rattle.session_rules.specs.Calls.{freshPair, lineReply, number, saidText}
+use Rattle.session_rules.specs.Calls.{lineReply, number, saidText}
 use Rattle.rows.specs.Text.{countsText}
 
 -- == lines ==
@@ -56,5 +57,6 @@ texts n (s ∷ ss) = saidText n s ++ texts (suc n) ss
 abbrev pub whole : List (List ℕ) → List Said → List ℕ
 whole lines said = texts 1 said ++ countsText (length lines) (refusals said)
 
+-- both devices begin as after reset
 unfoldable pub answerText : List ℕ → List ℕ
-answerText input = whole (linesTaken input) (answers freshPair (linesTaken input))
+answerText input = whole (linesTaken input) (answers justReset (linesTaken input))

@@ -1,16 +1,16 @@
--- What the bench sees of a device in range is what stands in it; what a call leaves that is neither a reset, a tick nor a write of a mode or a command.
+-- What a bench sees of a device in range is what stands in it; what a call leaves that is neither a reset, a tick nor a write of a mode or a command.
 -- Assumes nothing.
 use Prim.Native.Nat.{ℕ, zero, suc}
 use native.Mathlib.Omega.{arith}
 use mathlib.Core.Path.{_≡_, refl, sym, ap, ap₂, _∙_}
-use mathlib.Core.Bool.{Bool, true, false, _||_, _&&_, true≢false}
+use mathlib.Core.Bool.{Bool, true, false, cond, _||_, _&&_, true≢false}
 use lib.Dec.{eqb, ltb}
-use borrow.Author.Tests.{ltb-true, eqb-true}
-use Rattle.line_rules.specs.declared.Format.{Format}
-use Rattle.line_rules.specs.Sending.{on}
-use Rattle.line_rules.proofs.Choice.{either, each}
+use borrow.Author.Tests.{ltb-true, eqb-true, eqb-false}
+use Rattle.line_rules.specs.Sending.{bit, on}
+use Rattle.line_rules.proofs.Choice.{either}
 use Rattle.link_rules.specs.declared.SenderHalf.{SenderHalf}
 use Rattle.link_rules.specs.declared.ReceiverHalf.{ReceiverHalf}
+use Rattle.link_rules.specs.Parts.{loaded, emptied}
 use Rattle.ins2651_rules.specs.declared.Registers.{Registers}
 use Rattle.ins2651_rules.specs.declared.Pins.{Pins}
 use Rattle.ins2651_rules.specs.declared.Flags.{Flags}
@@ -20,7 +20,7 @@ use Rattle.ins2651_rules.specs.Shape.{withParts, withRegisters, pinLevels, with
 use Rattle.ins2651_rules.specs.Modes.{has}
 use Rattle.ins2651_rules.specs.Conditions.{transmitEnabled, vacant}
 use Rattle.ins2651_rules.specs.Ranges.{inRange}
-use Rattle.ins2651_rules.specs.Refusals.{writeRefusal}
+use Rattle.ins2651_rules.specs.Refusals.{levelRefusal, writeRefusal}
 use Rattle.ins2651_rules.specs.RegisterReads.{readRegister}
 use Rattle.ins2651_rules.specs.RegisterWrites.{writeRegister}
 use Rattle.ins2651_rules.specs.Pinning.{pinned}
@@ -32,11 +32,9 @@ use Rattle.ins2651_rules.proofs.Refused.{read-address}
 use Rattle.ins2651_rules.proofs.Leaves.{SameErrors, withSyns}
 use Rattle.ins2651_rules.proofs.WritesLeave.{NoErrors, ErrorsBy}
 use Rattle.ins2651_rules.proofs.StatusBits.{status-bits}
-use Rattle.delivery.specs.OneWay.{Deed, Writes, Reads, Passes}
-use Rattle.delivery.specs.Ends.{senderAfter, receiverAfter}
-use Rattle.joined_rules.specs.Bench.{statusBit, mayWrite, unread, flagged, character, writing, reading}
+use Rattle.ins2651_ends.specs.OnALine.{statusBit, mayWrite, unread, flagged, character, writes, valueOf, reads, refusedOr}
 
--- == what the bench sees ==
+-- == what a bench sees ==
 
 bit-is : (d : Device) (w : ℕ) → inRange d ≡ true → statusBit w d ≡ has w (statusByte d)
 unfolding readRegister
@@ -61,33 +59,54 @@ flagged-is d h =
     ap₂ (λ (x y : Bool). x || y)
     (ap₂ (λ (x y : Bool). x || y) (bit-is d 32 h ∙ status-bits d .bit5) (bit-is d 16 h ∙ status-bits d .bit4)) (bit-is d 8 h ∙ status-bits d .bit3)
 
--- == what a call is to a way ==
+-- a level is never refused
+pub is-level : (b : Bool) → levelRefusal (bit b) ≡ 0
+is-level true = refl
+is-level false = refl
 
--- at the side that sends: a write of address 0, or nothing
-pub of-writing : (P : Deed → Type 0) (c : Call) → P Passes → ((v : ℕ) → c ≡ Write 0 v → P (Writes v)) → P (writing c)
-of-writing P Reset p q = p
-of-writing P (Read address) p q = p
-of-writing P (Write address v) p q = each P (eqb address 0) (λ t. q v (ap (λ (k : ℕ). Write k v) (eqb-true address 0 t))) (λ t. p)
-of-writing P (SetPins dsr dcd cts) p q = p
-of-writing P Transmit p q = p
-of-writing P (Receive x) p q = p
-of-writing P Outputs p q = p
+-- == which calls write and read ==
 
--- at the side that receives: a read of address 0, or nothing
-pub of-reading : (P : Deed → Type 0) (c : Call) → P Passes → (c ≡ Read 0 → P Reads) → P (reading c)
-of-reading P Reset p q = p
-of-reading P (Read address) p q = each P (eqb address 0) (λ t. q (ap Read (eqb-true address 0 t))) (λ t. p)
-of-reading P (Write address v) p q = p
-of-reading P (SetPins dsr dcd cts) p q = p
-of-reading P Transmit p q = p
-of-reading P (Receive x) p q = p
-of-reading P Outputs p q = p
+pub writes-is : (c : Call) → writes c ≡ true → c ≡ Write 0 (valueOf c)
+writes-is Reset h = absurd (true≢false (sym h))
+writes-is (Read address) h = absurd (true≢false (sym h))
+writes-is (Write address v) h = ap (λ (k : ℕ). Write k v) (eqb-true address 0 h)
+writes-is (SetPins dsr dcd cts) h = absurd (true≢false (sym h))
+writes-is Transmit h = absurd (true≢false (sym h))
+writes-is (Receive x) h = absurd (true≢false (sym h))
+writes-is Outputs h = absurd (true≢false (sym h))
 
--- a refused call is nothing at either
-pub refused-passes : (d : Device) (c : Call) → (refusal d c ≡ 0 → ⊥) → (writing c ≡ Passes) × (reading c ≡ Passes)
+reads-is : (c : Call) → reads c ≡ true → c ≡ Read 0
+reads-is Reset h = absurd (true≢false (sym h))
+reads-is (Read address) h = ap Read (eqb-true address 0 h)
+reads-is (Write address v) h = absurd (true≢false (sym h))
+reads-is (SetPins dsr dcd cts) h = absurd (true≢false (sym h))
+reads-is Transmit h = absurd (true≢false (sym h))
+reads-is (Receive x) h = absurd (true≢false (sym h))
+reads-is Outputs h = absurd (true≢false (sym h))
+
+-- == done, or refused ==
+
+pub by-refusal : {P : Type 0} (d : Device) (c : Call) → (refusal d c ≡ 0 → P) → ((refusal d c ≡ 0 → ⊥) → P) → P
+by-refusal {P} d c done refused = go (eqb (refusal d c) 0) refl
+  where
+    go : (b : Bool) → eqb (refusal d c) 0 ≡ b → P
+    go true e = done (eqb-true _ _ e)
+    go false e = refused (eqb-false _ _ e)
+
+pub refused-or : {P : Type 0} (p : Call → Bool) (d : Device) (c : Call) → refusedOr p d c ≡ true → (refusal d c ≡ 0 → p c ≡ true → P) → ((refusal d c ≡ 0 → ⊥) → P) → P
+refused-or p d c a done refused = by-refusal d c (λ n. done n (rw n at a)) refused
+
+none : (b : Bool) → (b ≡ true → ⊥) → b ≡ false
+none true n = absurd (n refl)
+none false n = refl
+
+-- neither is ever refused, so that a refused call is none of them
+pub refused-writes-nothing : (d : Device) (c : Call) → (refusal d c ≡ 0 → ⊥) → writes c ≡ false
 unfolding writeRefusal
-refused-passes d c n =
-    (of-writing (λ k. k ≡ Passes) c refl (λ v e. absurd (n (ap (refusal d) e))), of-reading (λ k. k ≡ Passes) c refl (λ e. absurd (n (ap (refusal d) e))))
+refused-writes-nothing d c n = none (writes c) (λ e. n (ap (refusal d) (writes-is c e)))
+
+pub refused-reads-nothing : (d : Device) (c : Call) → (refusal d c ≡ 0 → ⊥) → reads c ≡ false
+refused-reads-nothing d c n = none (reads c) (λ e. n (ap (refusal d) (reads-is c e)))
 
 -- == a call that changes little ==
 
@@ -104,16 +123,15 @@ pub record Light (d : Device) (c : Call) : Type 0 where
   pub accepted : next d c .registers .accepted ≡ d .registers .accepted
   pub command : next d c .registers .command ≡ d .registers .command
   pub pins : next d c .pins ≡ pinsAfter c (d .pins)
-  pub sender : (f : Format) → next d c .sender ≡ senderAfter f (writing c) (d .sender)
-  pub receiver : (g : Format) (x : Bool) → next d c .receiver ≡ receiverAfter g x (reading c) (d .receiver)
+  pub sender : next d c .sender ≡ cond (writes c) (loaded (d .sender) (valueOf c)) (d .sender)
+  pub receiver : next d c .receiver ≡ cond (reads c) (emptied (d .receiver)) (d .receiver)
   pub errors : SameErrors (d .flags) (next d c .flags)
 
 module _ (d : Device) (h : inRange d ≡ true) where
   -- SYN bytes, pointers, pins, halves and marks
   lightly : (k : Call) {a b c m n x y : ℕ} {p : Pins} {s : SenderHalf} {r : ReceiverHalf}
       → next d k ≡ withParts d (withSyns (d .registers) a b c m n) p s r (withEmpty (withChange (d .flags) y) x)
-      → p ≡ pinsAfter k (d .pins) → ((f : Format) → s ≡ senderAfter f (writing k) (d .sender))
-      → ((g : Format) (x : Bool) → r ≡ receiverAfter g x (reading k) (d .receiver)) → Light d k
+      → p ≡ pinsAfter k (d .pins) → s ≡ cond (writes k) (loaded (d .sender) (valueOf k)) (d .sender) → r ≡ cond (reads k) (emptied (d .receiver)) (d .receiver) → Light d k
   lightly k q p s r =
       record {
         mode1 = ap (λ (e : Device). e .registers .mode1) q;
@@ -121,8 +139,8 @@ module _ (d : Device) (h : inRange d ≡ true) where
         accepted = ap (λ (e : Device). e .registers .accepted) q;
         command = ap (λ (e : Device). e .registers .command) q;
         pins = ap (λ (e : Device). e .pins) q ∙ p;
-        sender = λ f. ap (λ (e : Device). e .sender) q ∙ s f;
-        receiver = λ g x. ap (λ (e : Device). e .receiver) q ∙ r g x;
+        sender = ap (λ (e : Device). e .sender) q ∙ s;
+        receiver = ap (λ (e : Device). e .receiver) q ∙ r;
         errors = record {
           framing = ap (λ (e : Device). e .flags .framing) q;
           overrun = ap (λ (e : Device). e .flags .overrun) q;
@@ -130,31 +148,31 @@ module _ (d : Device) (h : inRange d ≡ true) where
         };
       }
 
-  reads : (address : ℕ) → refusal d (Read address) ≡ 0 → next d (Read address) ≡ readRegister d address .device
-  reads address n = ap (λ (o : Answer). o .device) (does-read d h address n)
+  does-so : (address : ℕ) → refusal d (Read address) ≡ 0 → next d (Read address) ≡ readRegister d address .device
+  does-so address n = ap (λ (o : Answer). o .device) (does-read d h address n)
 
   by-call : (c : Call) → refusal d c ≡ 0 → light c ≡ true → Light d c
   unfolding readRegister writeRefusal writeRegister pinned
   by-call Reset n l = absurd (true≢false (sym l))
-  by-call (Read zero) n l = lightly (Read 0) (reads 0 refl) refl (λ f. refl) (λ g x. refl)
-  by-call (Read (suc zero)) n l = lightly (Read 1) (reads 1 refl) refl (λ f. refl) (λ g x. refl)
+  by-call (Read zero) n l = lightly (Read 0) (does-so 0 refl) refl refl refl
+  by-call (Read (suc zero)) n l = lightly (Read 1) (does-so 1 refl) refl refl refl
   by-call (Read (suc (suc zero))) n l =
       let P : Answer → Type 0 = λ o. next d (Read 2) ≡ o .device → Light d (Read 2) in
       either P (eqb (d .registers .modes) 0)
-      (λ q. lightly (Read 2) q refl (λ f. refl) (λ g x. refl)) (λ q. lightly (Read 2) q refl (λ f. refl) (λ g x. refl)) (reads 2 refl)
-  by-call (Read (suc (suc (suc zero)))) n l = lightly (Read 3) (reads 3 refl) refl (λ f. refl) (λ g x. refl)
+      (λ q. lightly (Read 2) q refl refl refl) (λ q. lightly (Read 2) q refl refl refl) (does-so 2 refl)
+  by-call (Read (suc (suc (suc zero)))) n l = lightly (Read 3) (does-so 3 refl) refl refl refl
   by-call (Read (suc (suc (suc (suc i))))) n l = absurd (omega (arith, read-address (suc (suc (suc (suc i)))) n))
-  by-call (Write zero v) n l = lightly (Write 0 v) (does-write d h 0 v refl) refl (λ f. refl) (λ g x. refl)
+  by-call (Write zero v) n l = lightly (Write 0 v) (does-write d h 0 v refl) refl refl refl
   by-call (Write (suc zero) v) n l =
       let P : Registers → Type 0 = λ q. next d (Write 1 v) ≡ withRegisters d q → Light d (Write 1 v) in
-      either P (eqb (d .registers .syns) 0) (λ q. lightly (Write 1 v) q refl (λ f. refl) (λ g x. refl))
-      (either P (eqb (d .registers .syns) 1) (λ q. lightly (Write 1 v) q refl (λ f. refl) (λ g x. refl)) (λ q. lightly (Write 1 v) q refl (λ f. refl) (λ g x. refl)))
+      either P (eqb (d .registers .syns) 0) (λ q. lightly (Write 1 v) q refl refl refl)
+      (either P (eqb (d .registers .syns) 1) (λ q. lightly (Write 1 v) q refl refl refl) (λ q. lightly (Write 1 v) q refl refl refl))
       (does-write d h 1 v refl)
   by-call (Write (suc (suc i)) v) n l = absurd (omega (arith, ltb-true (suc (suc i)) 2 l))
-  by-call (SetPins dsr dcd cts) n l = lightly (SetPins dsr dcd cts) (does-pins d h dsr dcd cts n) refl (λ f. refl) (λ g x. refl)
+  by-call (SetPins dsr dcd cts) n l = lightly (SetPins dsr dcd cts) (does-pins d h dsr dcd cts n) refl refl refl
   by-call Transmit n l = absurd (true≢false (sym l))
   by-call (Receive x) n l = absurd (true≢false (sym l))
-  by-call Outputs n l = lightly Outputs refl refl (λ f. refl) (λ g x. refl)
+  by-call Outputs n l = lightly Outputs refl refl refl refl
 
 -- such a call, where it is done
 pub light-leaves : (d : Device) (c : Call) → inRange d ≡ true → refusal d c ≡ 0 → light c ≡ true → Light d c

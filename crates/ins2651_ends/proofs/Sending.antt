@@ -1,19 +1,19 @@
--- The chip as an end that sends: what its sending rests on, and that each call and tick which leaves that alone does to the sending half what
--- it is to the way.
+-- The INS2651 is an end that sends: what its sending rests on, and that each call and tick which leaves that alone does to the sending half what
+-- `delivery` asks.
 -- Assumes nothing.
 use Prim.Native.Nat.{ℕ, zero, suc, _/_, _%_}
 use native.Mathlib.Omega.{arith}
 use mathlib.Core.Path.{_≡_, refl, sym, ap, ap₂, subst, _∙_}
-use mathlib.Core.Bool.{Bool, true, false, not, _&&_, true≢false}
+use mathlib.Core.Bool.{Bool, true, false, cond, not, _&&_, true≢false}
 use lib.Dec.{eqb}
-use borrow.Author.Tests.{eqb-true, eqb-false}
 use Rattle.line_rules.specs.declared.Format.{Format}
-use Rattle.line_rules.specs.Sending.{on}
+use Rattle.line_rules.specs.Sending.{bit, on}
 use Rattle.line_rules.proofs.Bits.{on-bit}
 use Rattle.line_rules.proofs.Choice.{all, not-so}
 use Rattle.line_rules.proofs.Table.{both}
 use Rattle.link_rules.specs.declared.SenderHalf.{SenderHalf}
 use Rattle.link_rules.specs.declared.Sent.{Sent}
+use Rattle.link_rules.specs.Parts.{loaded}
 use Rattle.link_rules.specs.Transmitting as link-transmitting
 use Rattle.ins2651_rules.specs.declared.Registers.{Registers}
 use Rattle.ins2651_rules.specs.declared.Pins.{Pins}
@@ -34,10 +34,9 @@ use Rattle.ins2651_rules.proofs.ReadByHistory.{command-put}
 use Rattle.ins2651_rules.proofs.Leaves.{ReceiveLeaves, receive-leaves}
 use Rattle.ins2651_rules.proofs.WritesLeave.{CommandWritten, command-write-leaves}
 use Rattle.ins2651_rules.proofs.InRange.{next-in}
-use Rattle.delivery.specs.OneWay.{Deed}
-use Rattle.delivery.specs.Ends.{senderAfter}
-use Rattle.joined_rules.specs.Bench.{mayWrite, writing, leavesSending, refusedOr}
-use Rattle.joined_rules.proofs.Calls.{may-write-is, refused-passes, light, pinsAfter, Light, light-leaves}
+use Rattle.delivery.specs.Ends.{SendingEnd}
+use Rattle.ins2651_ends.specs.OnALine.{mayWrite, writes, valueOf, leavesSending, refusedOr, ins2651}
+use Rattle.ins2651_ends.proofs.Calls.{may-write-is, is-level, refused-or, refused-writes-nothing, light, pinsAfter, Light, light-leaves}
 
 -- it may start frames in the format f, and no break is on
 pub record Sending (f : Format) (d : Device) : Type 0 where
@@ -64,10 +63,10 @@ sends-same d e h i r p =
     (ap (λ (q : Registers). transmitEnable (q .command)) r ∙ h .enabled) (ap (λ (q : Registers). forceBreak (q .command)) r ∙ h .no-break)
     (ap low p ∙ h .clear)
 
--- == what the bench sees ==
+-- == what a bench sees ==
 
 -- it may be written while THR is empty
-pub vacant-is : {f : Format} (d : Device) → Sending f d → mayWrite d ≡ vacant d
+vacant-is : {f : Format} (d : Device) → Sending f d → mayWrite d ≡ vacant d
 vacant-is d h = may-write-is d (h .within) ∙ ap (λ (b : Bool). b && vacant d) (h .enabled)
 
 -- the sending half is told that it may start, that no break is on, and the format
@@ -76,14 +75,14 @@ sent-is {f = f} d h =
     ap₂ (λ (ready broken : Bool). link-transmitting.transmit (d .sender) ready broken (sendFormat (d .registers))) (all (all (h .enabled) (h .clear)) (h .set)) (h .no-break)
     ∙ ap (link-transmitting.transmit (d .sender) true false) (h .format)
 
-pub level-is : {f : Format} (d : Device) → Sending f d → on (transmit d .level) ≡ link-transmitting.transmit (d .sender) true false f .level
+level-is : {f : Format} (d : Device) → Sending f d → on (transmit d .level) ≡ link-transmitting.transmit (d .sender) true false f .level
 unfolding transmitTick
 level-is d h = ap (λ o. on (o .level)) (does-transmit d (h .within)) ∙ on-bit (sent d .level) ∙ ap (λ (o : Sent). o .level) (sent-is d h)
 
 -- == what it does ==
 
 -- it is still an end that sends, and its half is this one
-pub record SendsOn (f : Format) (e : Device) (s : SenderHalf) : Type 0 where
+record SendsOn (f : Format) (e : Device) (s : SenderHalf) : Type 0 where
   pub ready : Sending f e
   pub half : e .sender ≡ s
 
@@ -94,7 +93,7 @@ sends-through {f = f} d x h n =
     record { ready = sends-same d (next d (Receive x)) h (next-in d (Receive x) (h .within)) (w .registers) (w .pins); half = w .sender }
 
 -- its part of a joined tick: a transmit tick, then a receive tick of whatever the other device sends
-pub sends-ticked : {f : Format} (d : Device) (x : ℕ) → Sending f d → levelRefusal x ≡ 0
+sends-ticked : {f : Format} (d : Device) (x : ℕ) → Sending f d → levelRefusal x ≡ 0
     → SendsOn f (next (next d Transmit) (Receive x)) (link-transmitting.transmit (d .sender) true false f .half)
 unfolding transmitTick
 sends-ticked {f = f} d x h n =
@@ -104,15 +103,19 @@ sends-ticked {f = f} d x h n =
     let w = sends-through e x r n in
     record { ready = w .ready; half = w .half ∙ ap (λ (k : Device). k .sender) is ∙ ap (λ (o : Sent). o .half) (sent-is d h) }
 
+-- a write loads the half
+abbrev written : Call → SenderHalf → SenderHalf
+written c s = cond (writes c) (loaded s (valueOf c)) s
+
 module _ {f : Format} (d : Device) (h : Sending f d) where
   -- a call that changes little, and leaves CTS low
-  sends-lightly : (c : Call) → refusal d c ≡ 0 → light c ≡ true → eqb (pinsAfter c (d .pins) .cts) 0 ≡ true → SendsOn f (next d c) (senderAfter f (writing c) (d .sender))
+  sends-lightly : (c : Call) → refusal d c ≡ 0 → light c ≡ true → eqb (pinsAfter c (d .pins) .cts) 0 ≡ true → SendsOn f (next d c) (written c (d .sender))
   sends-lightly c n l cts =
       let w : Light d c = light-leaves d c (h .within) n l in
       record {
         ready = sends-still d (next d c) h (next-in d c (h .within)) (w .mode1) (w .mode2) (w .accepted)
             (ap transmitEnable (w .command) ∙ h .enabled) (ap forceBreak (w .command) ∙ h .no-break) (ap low (w .pins) ∙ cts);
-        half = w .sender f;
+        half = w .sender;
       }
 
   -- a command that leaves transmit on and break off
@@ -128,7 +131,7 @@ module _ {f : Format} (d : Device) (h : Sending f d) where
         half = w .sender;
       }
 
-  sends-done : (c : Call) → refusal d c ≡ 0 → leavesSending c ≡ true → SendsOn f (next d c) (senderAfter f (writing c) (d .sender))
+  sends-done : (c : Call) → refusal d c ≡ 0 → leavesSending c ≡ true → SendsOn f (next d c) (written c (d .sender))
   sends-done Reset n l = absurd (true≢false (sym l))
   sends-done (Read address) n l = sends-lightly (Read address) n refl (h .clear)
   sends-done (Write zero v) n l = sends-lightly (Write 0 v) n refl (h .clear)
@@ -142,12 +145,24 @@ module _ {f : Format} (d : Device) (h : Sending f d) where
   sends-done Outputs n l = record { ready = h; half = refl }
 
   -- a call that leaves alone what sending rests on, or is refused
-  pub sends-called : (c : Call) → refusedOr leavesSending d c ≡ true → SendsOn f (next d c) (senderAfter f (writing c) (d .sender))
-  sends-called c a = go (eqb (refusal d c) 0) refl
-    where
-      go : (b : Bool) → eqb (refusal d c) 0 ≡ b → SendsOn f (next d c) (senderAfter f (writing c) (d .sender))
-      go true e = sends-done c (eqb-true _ _ e) (rw e at a)
-      go false e =
-          let n : refusal d c ≡ 0 → ⊥ = eqb-false _ _ e in
-          let is : next d c ≡ d = refused-unchanged d c n .device in
-          record { ready = subst (Sending f) (sym is) h; half = ap (λ (k : Device). k .sender) is ∙ ap (λ (m : Deed). senderAfter f m (d .sender)) (sym (refused-passes d c n .0)) }
+  sends-called : (c : Call) → refusedOr leavesSending d c ≡ true → SendsOn f (next d c) (written c (d .sender))
+  sends-called c a =
+      refused-or leavesSending d c a (sends-done c) λ n.
+      let is : next d c ≡ d = refused-unchanged d c n .device in
+      record {
+        ready = subst (Sending f) (sym is) h;
+        half = ap (λ (k : Device). k .sender) is ∙ ap (λ (b : Bool). cond b (loaded (d .sender) (valueOf c)) (d .sender)) (sym (refused-writes-nothing d c n));
+      }
+
+-- == the end ==
+
+pub sending-end : (f : Format) → SendingEnd ins2651 f (Sending f) (λ d. d .sender)
+sending-end f =
+    record {
+      may-write = vacant-is;
+      level = level-is;
+      tick-ready = λ d x h. sends-ticked d (bit x) h (is-level x) .ready;
+      tick-half = λ d x h. sends-ticked d (bit x) h (is-level x) .half;
+      call-ready = λ d c h a. sends-called d h c a .ready;
+      call-half = λ d c h a. sends-called d h c a .half;
+    }

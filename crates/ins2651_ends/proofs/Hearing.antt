@@ -1,19 +1,20 @@
--- The chip as an end that receives: what its receiving rests on, and that each call and tick which leaves that alone does to the receiving half
--- what it is to the way.
+-- The INS2651 is an end that receives: what its receiving rests on, and that each call and tick which leaves that alone does to the receiving
+-- half what `delivery` asks.
 -- Assumes nothing.
 use Prim.Native.Nat.{ℕ, zero, suc}
 use native.Mathlib.Omega.{arith}
 use mathlib.Core.Path.{_≡_, refl, sym, ap, ap₂, subst, _∙_}
-use mathlib.Core.Bool.{Bool, true, false, _||_, true≢false}
+use mathlib.Core.Bool.{Bool, true, false, cond, _||_, true≢false}
 use lib.Dec.{eqb}
-use borrow.Author.Tests.{eqb-true, eqb-false}
 use Rattle.line_rules.specs.declared.Format.{Format}
 use Rattle.line_rules.specs.declared.Heard.{Heard}
 use Rattle.line_rules.specs.declared.Heard.the-variants.{Nothing, Character}
-use Rattle.line_rules.specs.Sending.{on}
+use Rattle.line_rules.specs.Sending.{bit, on}
+use Rattle.line_rules.proofs.Bits.{on-bit}
 use Rattle.line_rules.proofs.Choice.{all, neither}
 use Rattle.link_rules.specs.declared.ReceiverHalf.{ReceiverHalf}
 use Rattle.link_rules.specs.declared.Received.{Received}
+use Rattle.link_rules.specs.Parts.{emptied}
 use Rattle.link_rules.specs.Hearing.{arrives}
 use Rattle.link_rules.specs.Hearing as link-hearing
 use Rattle.ins2651_rules.specs.declared.Registers.{Registers}
@@ -35,10 +36,9 @@ use Rattle.ins2651_rules.proofs.ReadByHistory.{command-put}
 use Rattle.ins2651_rules.proofs.Leaves.{SameErrors, TransmitLeaves, transmit-leaves}
 use Rattle.ins2651_rules.proofs.WritesLeave.{NoErrors, CommandWritten, command-write-leaves}
 use Rattle.ins2651_rules.proofs.InRange.{next-in}
-use Rattle.delivery.specs.OneWay.{Deed, Ticks}
-use Rattle.delivery.specs.Ends.{receiverAfter, hears, faulty, faults}
-use Rattle.joined_rules.specs.Bench.{flagged, reading, leavesReceiving, refusedOr}
-use Rattle.joined_rules.proofs.Calls.{flagged-is, refused-passes, same-none, command-sets-none, light, pinsAfter, Light, light-leaves}
+use Rattle.delivery.specs.Ends.{receiveOn, faulty, tickFaults, ReceivingEnd}
+use Rattle.ins2651_ends.specs.OnALine.{flagged, reads, leavesReceiving, refusedOr, ins2651}
+use Rattle.ins2651_ends.proofs.Calls.{unread-is, character-is, flagged-is, is-level, refused-or, refused-reads-nothing, same-none, command-sets-none, light, pinsAfter, Light, light-leaves}
 
 -- it listens in the format g, and no error flag is set
 pub record Hearing (g : Format) (d : Device) : Type 0 where
@@ -64,16 +64,16 @@ hears-same d e h i r p z =
     hears-still d e h i (ap (λ (q : Registers). q .mode1) r) (ap (λ (q : Registers). q .mode2) r) (ap (λ (q : Registers). q .accepted) r)
     (ap (λ (q : Registers). receiveEnable (q .command)) r ∙ h .enabled) (ap low p ∙ h .carried) z
 
--- == what the bench sees ==
+-- == what a bench sees ==
 
-pub shows-no-flag : {g : Format} (d : Device) → Hearing g d → flagged d ≡ false
+shows-no-flag : {g : Format} (d : Device) → Hearing g d → flagged d ≡ false
 shows-no-flag d h =
     flagged-is d (h .within)
     ∙ ap₂ (λ (x y : Bool). x || y)
     (ap₂ (λ (x y : Bool). x || y) (ap on (h .no-errors .framing)) (ap on (h .no-errors .overrun))) (ap on (h .no-errors .parity))
 
 -- the receiving half is told that it is on, and the format
-received-is : {g : Format} (d : Device) (x : Bool) → Hearing g d → received d x ≡ hears g x (d .receiver)
+received-is : {g : Format} (d : Device) (x : Bool) → Hearing g d → received d x ≡ receiveOn g x (d .receiver)
 received-is d x h =
     ap (λ (live : Bool). link-hearing.receive (d .receiver) live (receiveFormat (d .registers)) x) (all (all (h .enabled) (h .carried)) (h .set))
     ∙ ap (λ (k : Format). link-hearing.receive (d .receiver) true k x) (h .format)
@@ -81,7 +81,7 @@ received-is d x h =
 -- == what it does ==
 
 -- it is still an end that receives, and its half is this one
-pub record HearsOn (g : Format) (e : Device) (r : ReceiverHalf) : Type 0 where
+record HearsOn (g : Format) (e : Device) (r : ReceiverHalf) : Type 0 where
   pub ready : Hearing g e
   pub half : e .receiver ≡ r
 
@@ -100,11 +100,11 @@ noted-same f o (Character a) q =
     rw (n .0, none .0, none .1) (record { framing = refl; overrun = refl; parity = refl })
 
 -- the half after a receive tick, and the end where that brought no fault
-heard-half : {g : Format} (d : Device) (x : ℕ) → Hearing g d → levelRefusal x ≡ 0 → next d (Receive x) .receiver ≡ hears g (on x) (d .receiver) .half
+heard-half : {g : Format} (d : Device) (x : ℕ) → Hearing g d → levelRefusal x ≡ 0 → next d (Receive x) .receiver ≡ receiveOn g (on x) (d .receiver) .half
 unfolding receiveTick
 heard-half d x h n = ap (λ (k : Device). k .receiver) (does-receive d (h .within) x n) ∙ ap (λ (o : Received). o .half) (received-is d (on x) h)
 
-heard-ready : {g : Format} (d : Device) (x : ℕ) → Hearing g d → levelRefusal x ≡ 0 → faults g (on x) Ticks (d .receiver) ≡ false → Hearing g (next d (Receive x))
+heard-ready : {g : Format} (d : Device) (x : ℕ) → Hearing g d → levelRefusal x ≡ 0 → tickFaults g (on x) (d .receiver) ≡ false → Hearing g (next d (Receive x))
 unfolding receiveTick
 heard-ready d x h n q =
     let is : next d (Receive x) ≡ receiveTick d (on x) = does-receive d (h .within) x n in
@@ -115,25 +115,29 @@ heard-ready d x h n q =
 
 -- its part of a joined tick: a transmit tick of its own, then a receive tick of what the other device sends
 module _ {g : Format} (d : Device) (x : ℕ) (h : Hearing g d) (n : levelRefusal x ≡ 0) where
-  pub hears-ticked : next (next d Transmit) (Receive x) .receiver ≡ hears g (on x) (d .receiver) .half
+  hears-ticked : next (next d Transmit) (Receive x) .receiver ≡ receiveOn g (on x) (d .receiver) .half
   hears-ticked =
       let w = hears-through d h in
-      heard-half (next d Transmit) x (w .ready) n ∙ ap (λ (r : ReceiverHalf). hears g (on x) r .half) (w .half)
+      heard-half (next d Transmit) x (w .ready) n ∙ ap (λ (r : ReceiverHalf). receiveOn g (on x) r .half) (w .half)
 
-  pub ticked-ready : faults g (on x) Ticks (d .receiver) ≡ false → Hearing g (next (next d Transmit) (Receive x))
+  ticked-ready : tickFaults g (on x) (d .receiver) ≡ false → Hearing g (next (next d Transmit) (Receive x))
   ticked-ready q =
       let w = hears-through d h in
-      heard-ready (next d Transmit) x (w .ready) n (ap (λ (r : ReceiverHalf). faults g (on x) Ticks r) (w .half) ∙ q)
+      heard-ready (next d Transmit) x (w .ready) n (ap (λ (r : ReceiverHalf). tickFaults g (on x) r) (w .half) ∙ q)
 
-module _ {g : Format} (d : Device) (x : Bool) (h : Hearing g d) where
+-- a read empties the half
+abbrev taken : Call → ReceiverHalf → ReceiverHalf
+taken c r = cond (reads c) (emptied r) r
+
+module _ {g : Format} (d : Device) (h : Hearing g d) where
   -- a call that changes little, and leaves DCD low
-  hears-lightly : (c : Call) → refusal d c ≡ 0 → light c ≡ true → low (pinsAfter c (d .pins)) ≡ true → HearsOn g (next d c) (receiverAfter g x (reading c) (d .receiver))
+  hears-lightly : (c : Call) → refusal d c ≡ 0 → light c ≡ true → low (pinsAfter c (d .pins)) ≡ true → HearsOn g (next d c) (taken c (d .receiver))
   hears-lightly c n l dcd =
       let w : Light d c = light-leaves d c (h .within) n l in
       record {
         ready = hears-still d (next d c) h (next-in d c (h .within)) (w .mode1) (w .mode2) (w .accepted)
             (ap receiveEnable (w .command) ∙ h .enabled) (ap low (w .pins) ∙ dcd) (same-none (w .errors) (h .no-errors));
-        half = w .receiver g x;
+        half = w .receiver;
       }
 
   -- a command that leaves receive on
@@ -147,7 +151,7 @@ module _ {g : Format} (d : Device) (x : Bool) (h : Hearing g d) where
         half = w .receiver-kept t;
       }
 
-  hears-done : (c : Call) → refusal d c ≡ 0 → leavesReceiving c ≡ true → HearsOn g (next d c) (receiverAfter g x (reading c) (d .receiver))
+  hears-done : (c : Call) → refusal d c ≡ 0 → leavesReceiving c ≡ true → HearsOn g (next d c) (taken c (d .receiver))
   hears-done Reset n l = absurd (true≢false (sym l))
   hears-done (Read address) n l = hears-lightly (Read address) n refl (h .carried)
   hears-done (Write zero v) n l = hears-lightly (Write 0 v) n refl (h .carried)
@@ -161,12 +165,26 @@ module _ {g : Format} (d : Device) (x : Bool) (h : Hearing g d) where
   hears-done Outputs n l = record { ready = h; half = refl }
 
   -- a call that leaves alone what receiving rests on, or is refused
-  pub hears-called : (c : Call) → refusedOr leavesReceiving d c ≡ true → HearsOn g (next d c) (receiverAfter g x (reading c) (d .receiver))
-  hears-called c a = go (eqb (refusal d c) 0) refl
-    where
-      go : (b : Bool) → eqb (refusal d c) 0 ≡ b → HearsOn g (next d c) (receiverAfter g x (reading c) (d .receiver))
-      go true e = hears-done c (eqb-true _ _ e) (rw e at a)
-      go false e =
-          let n : refusal d c ≡ 0 → ⊥ = eqb-false _ _ e in
-          let is : next d c ≡ d = refused-unchanged d c n .device in
-          record { ready = subst (Hearing g) (sym is) h; half = ap (λ (k : Device). k .receiver) is ∙ ap (λ (m : Deed). receiverAfter g x m (d .receiver)) (sym (refused-passes d c n .1)) }
+  hears-called : (c : Call) → refusedOr leavesReceiving d c ≡ true → HearsOn g (next d c) (taken c (d .receiver))
+  hears-called c a =
+      refused-or leavesReceiving d c a (hears-done c) λ n.
+      let is : next d c ≡ d = refused-unchanged d c n .device in
+      record {
+        ready = subst (Hearing g) (sym is) h;
+        half = ap (λ (k : Device). k .receiver) is ∙ ap (λ (b : Bool). cond b (emptied (d .receiver)) (d .receiver)) (sym (refused-reads-nothing d c n));
+      }
+
+-- == the end ==
+
+pub receiving-end : (g : Format) → ReceivingEnd ins2651 g (Hearing g) (λ d. d .receiver)
+receiving-end g =
+    record {
+      unread = λ d h. unread-is d (h .within);
+      character = λ d h. character-is d (h .within);
+      no-flag = shows-no-flag;
+      tick-ready = λ d x h q.
+          ticked-ready d (bit x) h (is-level x) (ap (λ (y : Bool). tickFaults g y (d .receiver)) (on-bit x) ∙ q);
+      tick-half = λ d x h. hears-ticked d (bit x) h (is-level x) ∙ ap (λ (y : Bool). receiveOn g y (d .receiver) .half) (on-bit x);
+      call-ready = λ d c h a. hears-called d h c a .ready;
+      call-half = λ d c h a. hears-called d h c a .half;
+    }

@@ -1,0 +1,134 @@
+-- Two chips that are ends, on a line: each way of it has its two ends, from whichever side it goes.
+-- Assumes nothing.
+use Prim.Native.Nat.{ℕ}
+use mathlib.Core.Path.{_≡_, refl, sym, ap, subst, _∙_}
+use mathlib.Core.Bool.{Bool, true, false, cond}
+use mathlib.Core.List.{List}
+use Rattle.line_rules.specs.declared.Format.{Format}
+use Rattle.line_rules.specs.Sending.{frameLength}
+use Rattle.line_rules.proofs.Choice.{either}
+use Rattle.link_rules.specs.declared.SenderHalf.{SenderHalf}
+use Rattle.link_rules.specs.declared.ReceiverHalf.{ReceiverHalf}
+use Rattle.link_rules.specs.Parts.{idleSender, idleReceiver, loaded, emptied}
+use Rattle.delivery.specs.OneWay.{Deed, Writes, Reads, Passes, noLog, runs, allAllowed}
+use Rattle.delivery.specs.Promise.{Idles, Promised}
+use Rattle.delivery.specs.Joined.{Side, A, B, other, Happens, Together, To, Elsewhere, Line, deviceAfter, Joins, deedFrom, steadyFrom, wayFrom}
+use Rattle.delivery.specs.Ends.{senderAfter, receiverAfter, faults, Fit, Sends, Receives, Begins, SendingEnd, ReceivingEnd}
+use Rattle.delivery.proofs.Carried.{way-delivers, way-idles}
+use Rattle.delivery.proofs.Started.{tick-begins}
+
+-- a call by its deed
+loads : (f : Format) (b : Bool) (v : ℕ) (h : SenderHalf) → cond b (loaded h v) h ≡ senderAfter f (cond b (Writes v) Passes) h
+loads f true v h = refl
+loads f false v h = refl
+
+empties : (g : Format) (x b : Bool) (h : ReceiverHalf) → cond b (emptied h) h ≡ receiverAfter g x (cond b Reads Passes) h
+empties g x true h = refl
+empties g x false h = refl
+
+-- a call at the other side is no deed of a half
+unsent : (f : Format) (b : Bool) (h : SenderHalf) → h ≡ senderAfter f (cond b Reads Passes) h
+unsent f b h = either (λ (k : Deed). h ≡ senderAfter f k h) b refl refl
+
+unheard : (g : Format) (x b : Bool) (v : ℕ) (h : ReceiverHalf) → h ≡ receiverAfter g x (cond b (Writes v) Passes) h
+unheard g x b v h = either (λ (k : Deed). h ≡ receiverAfter g x k h) b refl refl
+
+module _ {W X : Type 0} {State Call : Side → Type 0} (l : Line W X State Call) where
+  -- == the side that sends ==
+
+  sends-ready : {f : Format} (s : Side) {Ready : State s → Type 0} {half : State s → SenderHalf} → SendingEnd (l .chip s) f Ready half
+      → (w : W) (k : Happens Call) → Ready (l .device s w) → steadyFrom l s w k ≡ true → Ready (deviceAfter l s w k)
+  sends-ready s end w Together h t = end .tick-ready (l .device s w) (l .chip (other s) .level (l .device (other s) w)) h
+  sends-ready A end w (To A c) h t = end .call-ready (l .device A w) c h t
+  sends-ready A end w (To B c) h t = h
+  sends-ready B end w (To A c) h t = h
+  sends-ready B end w (To B c) h t = end .call-ready (l .device B w) c h t
+  sends-ready s end w Elsewhere h t = h
+
+  sends-half : {f : Format} (s : Side) {Ready : State s → Type 0} {half : State s → SenderHalf} → SendingEnd (l .chip s) f Ready half
+      → (w : W) (k : Happens Call) → Ready (l .device s w) → steadyFrom l s w k ≡ true
+      → half (deviceAfter l s w k) ≡ senderAfter f (deedFrom l s w k) (half (l .device s w))
+  sends-half s end w Together h t = end .tick-half (l .device s w) (l .chip (other s) .level (l .device (other s) w)) h
+  sends-half {f = f} A {half = half} end w (To A c) h t =
+      end .call-half (l .device A w) c h t ∙ loads f (l .chip A .writes (l .device A w) c) (l .chip A .value c) (half (l .device A w))
+  sends-half {f = f} A {half = half} end w (To B c) h t = unsent f (l .chip B .reads (l .device B w) c) (half (l .device A w))
+  sends-half {f = f} B {half = half} end w (To A c) h t = unsent f (l .chip A .reads (l .device A w) c) (half (l .device B w))
+  sends-half {f = f} B {half = half} end w (To B c) h t =
+      end .call-half (l .device B w) c h t ∙ loads f (l .chip B .writes (l .device B w) c) (l .chip B .value c) (half (l .device B w))
+  sends-half s end w Elsewhere h t = refl
+
+  pub side-sends : Joins l → {f : Format} (s : Side) {Ready : State s → Type 0} {half : State s → SenderHalf} → SendingEnd (l .chip s) f Ready half
+      → Sends (wayFrom l s) f (λ w. Ready (l .device s w)) (λ w. half (l .device s w))
+  side-sends joins s {Ready} {half} end =
+      record {
+        may-write = λ w h. end .may-write (l .device s w) h;
+        level = λ w h. end .level (l .device s w) h;
+        ready = λ w x h t. subst Ready (sym (joins .follows s w x)) (sends-ready s end w (l .happens w x) h t);
+        follows = λ w x h t. ap half (joins .follows s w x) ∙ sends-half s end w (l .happens w x) h t;
+      }
+
+  -- == the side that receives ==
+
+  hears-ready : {g : Format} (s : Side) {Ready : State (other s) → Type 0} {half : State (other s) → ReceiverHalf} → ReceivingEnd (l .chip (other s)) g Ready half
+      → (w : W) (k : Happens Call) → Ready (l .device (other s) w) → steadyFrom l s w k ≡ true
+      → faults g (wayFrom l s .level w) (deedFrom l s w k) (half (l .device (other s) w)) ≡ false → Ready (deviceAfter l (other s) w k)
+  hears-ready A end w Together h t n = end .tick-ready (l .device B w) (l .chip A .level (l .device A w)) h n
+  hears-ready B end w Together h t n = end .tick-ready (l .device A w) (l .chip B .level (l .device B w)) h n
+  hears-ready A end w (To A c) h t n = h
+  hears-ready A end w (To B c) h t n = end .call-ready (l .device B w) c h t
+  hears-ready B end w (To A c) h t n = end .call-ready (l .device A w) c h t
+  hears-ready B end w (To B c) h t n = h
+  hears-ready s end w Elsewhere h t n = h
+
+  hears-half : {g : Format} (s : Side) {Ready : State (other s) → Type 0} {half : State (other s) → ReceiverHalf} → ReceivingEnd (l .chip (other s)) g Ready half
+      → (w : W) (k : Happens Call) → Ready (l .device (other s) w) → steadyFrom l s w k ≡ true
+      → half (deviceAfter l (other s) w k) ≡ receiverAfter g (wayFrom l s .level w) (deedFrom l s w k) (half (l .device (other s) w))
+  hears-half A end w Together h t = end .tick-half (l .device B w) (l .chip A .level (l .device A w)) h
+  hears-half B end w Together h t = end .tick-half (l .device A w) (l .chip B .level (l .device B w)) h
+  hears-half {g = g} A {half = half} end w (To A c) h t =
+      unheard g (wayFrom l A .level w) (l .chip A .writes (l .device A w) c) (l .chip A .value c) (half (l .device B w))
+  hears-half {g = g} A {half = half} end w (To B c) h t =
+      end .call-half (l .device B w) c h t ∙ empties g (wayFrom l A .level w) (l .chip B .reads (l .device B w) c) (half (l .device B w))
+  hears-half {g = g} B {half = half} end w (To A c) h t =
+      end .call-half (l .device A w) c h t ∙ empties g (wayFrom l B .level w) (l .chip A .reads (l .device A w) c) (half (l .device A w))
+  hears-half {g = g} B {half = half} end w (To B c) h t =
+      unheard g (wayFrom l B .level w) (l .chip B .writes (l .device B w) c) (l .chip B .value c) (half (l .device A w))
+  hears-half s end w Elsewhere h t = refl
+
+  pub side-receives : Joins l → {g : Format} (s : Side) {Ready : State (other s) → Type 0} {half : State (other s) → ReceiverHalf}
+      → ReceivingEnd (l .chip (other s)) g Ready half → Receives (wayFrom l s) g (λ w. Ready (l .device (other s) w)) (λ w. half (l .device (other s) w))
+  side-receives joins s {Ready} {half} end =
+      record {
+        unread = λ w h. end .unread (l .device (other s) w) h;
+        character = λ w h. end .character (l .device (other s) w) h;
+        no-flag = λ w h. end .no-flag (l .device (other s) w) h;
+        ready = λ w x h t n. subst Ready (sym (joins .follows (other s) w x)) (hears-ready s end w (l .happens w x) h t n);
+        follows = λ w x h t. ap half (joins .follows (other s) w x) ∙ hears-half s end w (l .happens w x) h t;
+      }
+
+-- == the promise ==
+
+-- each way of the line, from two devices that have sent nothing and heard nothing, after one joined tick: what else a chip's calls and ticks do, and
+-- whatever happens on the other way, does not touch it
+module _ {W X : Type 0} {State Call : Side → Type 0} {l : Line W X State Call} (joins : Joins l) {f g : Format} (fit : Fit f g) (s : Side)
+    {S : State s → Type 0} {sender : State s → SenderHalf} (sending : SendingEnd (l .chip s) f S sender)
+    {R : State (other s) → Type 0} {receiver : State (other s) → ReceiverHalf} (receiving : ReceivingEnd (l .chip (other s)) g R receiver)
+    (w : W) (ready : S (l .device s w)) (listens : R (l .device (other s) w))
+    (idle : sender (l .device s w) ≡ idleSender) (unheard : receiver (l .device (other s) w) ≡ idleReceiver)
+    (x : X) (together : l .happens w x ≡ Together)
+    (xs : List X) (ok : allAllowed (wayFrom l s) (frameLength f) (noLog (l .next w x)) xs ≡ true) where
+  from : Sends (wayFrom l s) f (λ w. S (l .device s w)) (λ w. sender (l .device s w))
+  from = side-sends l joins s sending
+
+  to : Receives (wayFrom l s) g (λ w. R (l .device (other s) w)) (λ w. receiver (l .device (other s) w))
+  to = side-receives l joins s receiving
+
+  begins : Begins (λ w. S (l .device s w)) (λ w. R (l .device (other s) w)) (λ w. sender (l .device s w)) (λ w. receiver (l .device (other s) w)) (l .next w x)
+  begins = tick-begins from to w x (ap (deedFrom l s w) together) (ap (steadyFrom l s w) together) ready listens idle unheard
+
+  pub line-delivers : Promised (wayFrom l s) f (runs (wayFrom l s) (noLog (l .next w x)) xs)
+  line-delivers = way-delivers fit from to (l .next w x) begins xs ok
+
+  -- 'idle', as the promise reads it from the log, is what it is in the sending half
+  pub line-idles : let end = runs (wayFrom l s) (noLog (l .next w x)) xs in Idles f (sender (l .device s (end .bench))) (end .now) (end .log .written)
+  line-idles = way-idles fit from to (l .next w x) begins xs ok

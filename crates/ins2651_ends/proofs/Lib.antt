@@ -1,0 +1,4 @@
+pub mod Calls
+pub mod Sending
+pub mod Hearing
+pub mod Untouched

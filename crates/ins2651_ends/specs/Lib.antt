@@ -1,0 +1,2 @@
+pub mod OnALine
+pub mod Fresh
