@@ -1,6 +1,5 @@
 -- Two chips that are ends, on a line: each way of it has its two ends, from whichever side it goes.
 -- Assumes nothing.
-use Prim.Native.Nat.{ℕ}
 use mathlib.Core.Path.{_≡_, refl, sym, ap, subst, _∙_}
 use mathlib.Core.Bool.{Bool, true, false, cond}
 use mathlib.Core.List.{List}
@@ -12,26 +11,33 @@ use Rattle.link_rules.specs.declared.ReceiverHalf.{ReceiverHalf}
 use Rattle.link_rules.specs.Parts.{idleSender, idleReceiver, loaded, emptied}
 use Rattle.delivery.specs.OneWay.{Deed, Writes, Reads, Passes, noLog, runs, allAllowed}
 use Rattle.delivery.specs.Promise.{Idles, Promised}
-use Rattle.delivery.specs.Joined.{Side, A, B, other, Happens, Together, To, Elsewhere, Line, deviceAfter, Joins, deedFrom, steadyFrom, wayFrom}
+use Rattle.delivery.specs.Joined.{Chip, Side, A, B, other, Happens, Together, To, Elsewhere, Line, deviceAfter, Joins, writing, reading, deedFrom, steadyFrom, wayFrom}
 use Rattle.delivery.specs.Ends.{senderAfter, receiverAfter, faults, Fit, Sends, Receives, Begins, SendingEnd, ReceivingEnd}
 use Rattle.delivery.proofs.Carried.{way-delivers, way-idles}
 use Rattle.delivery.proofs.Started.{tick-begins}
 
--- a call by its deed
-loads : (f : Format) (b : Bool) (v : ℕ) (h : SenderHalf) → cond b (loaded h v) h ≡ senderAfter f (cond b (Writes v) Passes) h
-loads f true v h = refl
-loads f false v h = refl
+-- a call by its deed, at its own side ..
+module _ {D C : Type 0} (k : Chip D C) (d : D) (c : C) where
+  loads : (f : Format) (h : SenderHalf) → cond (k .writes d c) (loaded h (k .value c)) h ≡ senderAfter f (writing k d c) h
+  loads f h = go (k .writes d c)
+    where
+      go : (b : Bool) → cond b (loaded h (k .value c)) h ≡ senderAfter f (cond b (Writes (k .value c)) Passes) h
+      go true = refl
+      go false = refl
 
-empties : (g : Format) (x b : Bool) (h : ReceiverHalf) → cond b (emptied h) h ≡ receiverAfter g x (cond b Reads Passes) h
-empties g x true h = refl
-empties g x false h = refl
+  empties : (g : Format) (x : Bool) (h : ReceiverHalf) → cond (k .reads d c) (emptied h) h ≡ receiverAfter g x (reading k d c) h
+  empties g x h = go (k .reads d c)
+    where
+      go : (b : Bool) → cond b (emptied h) h ≡ receiverAfter g x (cond b Reads Passes) h
+      go true = refl
+      go false = refl
 
--- a call at the other side is no deed of a half
-unsent : (f : Format) (b : Bool) (h : SenderHalf) → h ≡ senderAfter f (cond b Reads Passes) h
-unsent f b h = either (λ (k : Deed). h ≡ senderAfter f k h) b refl refl
+  -- .. and none of the other side's half
+  unsent : (f : Format) (h : SenderHalf) → h ≡ senderAfter f (reading k d c) h
+  unsent f h = either (λ (m : Deed). h ≡ senderAfter f m h) (k .reads d c) refl refl
 
-unheard : (g : Format) (x b : Bool) (v : ℕ) (h : ReceiverHalf) → h ≡ receiverAfter g x (cond b (Writes v) Passes) h
-unheard g x b v h = either (λ (k : Deed). h ≡ receiverAfter g x k h) b refl refl
+  unheard : (g : Format) (x : Bool) (h : ReceiverHalf) → h ≡ receiverAfter g x (writing k d c) h
+  unheard g x h = either (λ (m : Deed). h ≡ receiverAfter g x m h) (k .writes d c) refl refl
 
 module _ {W X : Type 0} {State Call : Side → Type 0} (l : Line W X State Call) where
   -- == the side that sends ==
@@ -50,11 +56,11 @@ module _ {W X : Type 0} {State Call : Side → Type 0} (l : Line W X State Call)
       → half (deviceAfter l s w k) ≡ senderAfter f (deedFrom l s w k) (half (l .device s w))
   sends-half s end w Together h t = end .tick-half (l .device s w) (l .chip (other s) .level (l .device (other s) w)) h
   sends-half {f = f} A {half = half} end w (To A c) h t =
-      end .call-half (l .device A w) c h t ∙ loads f (l .chip A .writes (l .device A w) c) (l .chip A .value c) (half (l .device A w))
-  sends-half {f = f} A {half = half} end w (To B c) h t = unsent f (l .chip B .reads (l .device B w) c) (half (l .device A w))
-  sends-half {f = f} B {half = half} end w (To A c) h t = unsent f (l .chip A .reads (l .device A w) c) (half (l .device B w))
+      end .call-half (l .device A w) c h t ∙ loads (l .chip A) (l .device A w) c f (half (l .device A w))
+  sends-half {f = f} A {half = half} end w (To B c) h t = unsent (l .chip B) (l .device B w) c f (half (l .device A w))
+  sends-half {f = f} B {half = half} end w (To A c) h t = unsent (l .chip A) (l .device A w) c f (half (l .device B w))
   sends-half {f = f} B {half = half} end w (To B c) h t =
-      end .call-half (l .device B w) c h t ∙ loads f (l .chip B .writes (l .device B w) c) (l .chip B .value c) (half (l .device B w))
+      end .call-half (l .device B w) c h t ∙ loads (l .chip B) (l .device B w) c f (half (l .device B w))
   sends-half s end w Elsewhere h t = refl
 
   pub side-sends : Joins l → {f : Format} (s : Side) {Ready : State s → Type 0} {half : State s → SenderHalf} → SendingEnd (l .chip s) f Ready half
@@ -86,13 +92,13 @@ module _ {W X : Type 0} {State Call : Side → Type 0} (l : Line W X State Call)
   hears-half A end w Together h t = end .tick-half (l .device B w) (l .chip A .level (l .device A w)) h
   hears-half B end w Together h t = end .tick-half (l .device A w) (l .chip B .level (l .device B w)) h
   hears-half {g = g} A {half = half} end w (To A c) h t =
-      unheard g (wayFrom l A .level w) (l .chip A .writes (l .device A w) c) (l .chip A .value c) (half (l .device B w))
+      unheard (l .chip A) (l .device A w) c g (wayFrom l A .level w) (half (l .device B w))
   hears-half {g = g} A {half = half} end w (To B c) h t =
-      end .call-half (l .device B w) c h t ∙ empties g (wayFrom l A .level w) (l .chip B .reads (l .device B w) c) (half (l .device B w))
+      end .call-half (l .device B w) c h t ∙ empties (l .chip B) (l .device B w) c g (wayFrom l A .level w) (half (l .device B w))
   hears-half {g = g} B {half = half} end w (To A c) h t =
-      end .call-half (l .device A w) c h t ∙ empties g (wayFrom l B .level w) (l .chip A .reads (l .device A w) c) (half (l .device A w))
+      end .call-half (l .device A w) c h t ∙ empties (l .chip A) (l .device A w) c g (wayFrom l B .level w) (half (l .device A w))
   hears-half {g = g} B {half = half} end w (To B c) h t =
-      unheard g (wayFrom l B .level w) (l .chip B .writes (l .device B w) c) (l .chip B .value c) (half (l .device A w))
+      unheard (l .chip B) (l .device B w) c g (wayFrom l B .level w) (half (l .device A w))
   hears-half s end w Elsewhere h t = refl
 
   pub side-receives : Joins l → {g : Format} (s : Side) {Ready : State (other s) → Type 0} {half : State (other s) → ReceiverHalf}
