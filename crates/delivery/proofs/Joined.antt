@@ -1,17 +1,18 @@
 -- Two chips that are ends, on a line: each way of it has its two ends, from whichever side it goes.
 -- Assumes nothing.
 use mathlib.Core.Path.{_≡_, refl, sym, ap, subst, _∙_}
-use mathlib.Core.Bool.{Bool, true, false, cond}
+use mathlib.Core.Bool.{Bool, true, false, cond, true≢false}
 use mathlib.Core.List.{List}
 use Rattle.line_rules.specs.declared.Format.{Format}
 use Rattle.line_rules.specs.Sending.{frameLength}
+use Rattle.line_rules.specs.Receiving.{waiting}
 use Rattle.line_rules.proofs.Choice.{either}
 use Rattle.link_rules.specs.declared.SenderHalf.{SenderHalf}
 use Rattle.link_rules.specs.declared.ReceiverHalf.{ReceiverHalf}
-use Rattle.link_rules.specs.Parts.{idleSender, idleReceiver, loaded, emptied}
+use Rattle.link_rules.specs.Parts.{idleSender, loaded, emptied}
 use Rattle.delivery.specs.OneWay.{Deed, Writes, Reads, Passes, noLog, runs, allAllowed}
 use Rattle.delivery.specs.Promise.{Idles, Promised}
-use Rattle.delivery.specs.Joined.{Chip, Side, A, B, other, Happens, Together, To, Elsewhere, Line, deviceAfter, Joins, writing, reading, deedFrom, steadyFrom, wayFrom}
+use Rattle.delivery.specs.Joined.{Chip, Side, A, B, other, Happens, Together, To, Elsewhere, Upset, Line, Becomes, Joins, writing, reading, deedFrom, steadyFrom, wayFrom}
 use Rattle.delivery.specs.Ends.{senderAfter, receiverAfter, faults, Fit, Sends, Receives, Begins, SendingEnd, ReceivingEnd}
 use Rattle.delivery.proofs.Carried.{way-delivers, way-idles}
 use Rattle.delivery.proofs.Started.{tick-begins}
@@ -43,84 +44,86 @@ module _ {W X : Type 0} {State Call : Side → Type 0} (l : Line W X State Call)
   -- == the side that sends ==
 
   sends-ready : {f : Format} (s : Side) {Ready : State s → Type 0} {half : State s → SenderHalf} → SendingEnd (l .chip s) f Ready half
-      → (w : W) (k : Happens Call) → Ready (l .device s w) → steadyFrom l s w k ≡ true → Ready (deviceAfter l s w k)
-  sends-ready s end w Together h t = end .tick-ready (l .device s w) (l .chip (other s) .level (l .device (other s) w)) h
-  sends-ready A end w (To A c) h t = end .call-ready (l .device A w) c h t
-  sends-ready A end w (To B c) h t = h
-  sends-ready B end w (To A c) h t = h
-  sends-ready B end w (To B c) h t = end .call-ready (l .device B w) c h t
-  sends-ready s end w Elsewhere h t = h
+      → (w : W) (k : Happens Call) (e : State s) → Becomes l s w k e → Ready (l .device s w) → steadyFrom l s w k ≡ true → Ready e
+  sends-ready s {Ready} end w Together e q h t = subst Ready (sym q) (end .tick-ready (l .device s w) (l .chip (other s) .level (l .device (other s) w)) h)
+  sends-ready A {Ready} end w (To A c) e q h t = subst Ready (sym q) (end .call-ready (l .device A w) c h t)
+  sends-ready A {Ready} end w (To B c) e q h t = subst Ready (sym q) h
+  sends-ready B {Ready} end w (To A c) e q h t = subst Ready (sym q) h
+  sends-ready B {Ready} end w (To B c) e q h t = subst Ready (sym q) (end .call-ready (l .device B w) c h t)
+  sends-ready s {Ready} end w Elsewhere e q h t = subst Ready (sym q) h
+  sends-ready s end w Upset e q h t = absurd (true≢false (sym t))
 
   sends-half : {f : Format} (s : Side) {Ready : State s → Type 0} {half : State s → SenderHalf} → SendingEnd (l .chip s) f Ready half
-      → (w : W) (k : Happens Call) → Ready (l .device s w) → steadyFrom l s w k ≡ true
-      → half (deviceAfter l s w k) ≡ senderAfter f (deedFrom l s w k) (half (l .device s w))
-  sends-half s end w Together h t = end .tick-half (l .device s w) (l .chip (other s) .level (l .device (other s) w)) h
-  sends-half {f = f} A {half = half} end w (To A c) h t =
-      end .call-half (l .device A w) c h t ∙ loads (l .chip A) (l .device A w) c f (half (l .device A w))
-  sends-half {f = f} A {half = half} end w (To B c) h t = unsent (l .chip B) (l .device B w) c f (half (l .device A w))
-  sends-half {f = f} B {half = half} end w (To A c) h t = unsent (l .chip A) (l .device A w) c f (half (l .device B w))
-  sends-half {f = f} B {half = half} end w (To B c) h t =
-      end .call-half (l .device B w) c h t ∙ loads (l .chip B) (l .device B w) c f (half (l .device B w))
-  sends-half s end w Elsewhere h t = refl
+      → (w : W) (k : Happens Call) (e : State s) → Becomes l s w k e → Ready (l .device s w) → steadyFrom l s w k ≡ true
+      → half e ≡ senderAfter f (deedFrom l s w k) (half (l .device s w))
+  sends-half s {half = half} end w Together e q h t = ap half q ∙ end .tick-half (l .device s w) (l .chip (other s) .level (l .device (other s) w)) h
+  sends-half {f = f} A {half = half} end w (To A c) e q h t =
+      ap half q ∙ end .call-half (l .device A w) c h t ∙ loads (l .chip A) (l .device A w) c f (half (l .device A w))
+  sends-half {f = f} A {half = half} end w (To B c) e q h t = ap half q ∙ unsent (l .chip B) (l .device B w) c f (half (l .device A w))
+  sends-half {f = f} B {half = half} end w (To A c) e q h t = ap half q ∙ unsent (l .chip A) (l .device A w) c f (half (l .device B w))
+  sends-half {f = f} B {half = half} end w (To B c) e q h t =
+      ap half q ∙ end .call-half (l .device B w) c h t ∙ loads (l .chip B) (l .device B w) c f (half (l .device B w))
+  sends-half s {half = half} end w Elsewhere e q h t = ap half q
+  sends-half s end w Upset e q h t = absurd (true≢false (sym t))
 
   pub side-sends : Joins l → {f : Format} (s : Side) {Ready : State s → Type 0} {half : State s → SenderHalf} → SendingEnd (l .chip s) f Ready half
       → Sends (wayFrom l s) f (λ w. Ready (l .device s w)) (λ w. half (l .device s w))
-  side-sends joins s {Ready} {half} end =
+  side-sends joins s end =
       record {
         may-write = λ w h. end .may-write (l .device s w) h;
         level = λ w h. end .level (l .device s w) h;
-        ready = λ w x h t. subst Ready (sym (joins .follows s w x)) (sends-ready s end w (l .happens w x) h t);
-        follows = λ w x h t. ap half (joins .follows s w x) ∙ sends-half s end w (l .happens w x) h t;
+        ready = λ w x h t. sends-ready s end w (l .happens w x) (l .device s (l .next w x)) (joins .follows s w x) h t;
+        follows = λ w x h t. sends-half s end w (l .happens w x) (l .device s (l .next w x)) (joins .follows s w x) h t;
       }
 
   -- == the side that receives ==
 
   hears-ready : {g : Format} (s : Side) {Ready : State (other s) → Type 0} {half : State (other s) → ReceiverHalf} → ReceivingEnd (l .chip (other s)) g Ready half
-      → (w : W) (k : Happens Call) → Ready (l .device (other s) w) → steadyFrom l s w k ≡ true
-      → faults g (wayFrom l s .level w) (deedFrom l s w k) (half (l .device (other s) w)) ≡ false → Ready (deviceAfter l (other s) w k)
-  hears-ready A end w Together h t n = end .tick-ready (l .device B w) (l .chip A .level (l .device A w)) h n
-  hears-ready B end w Together h t n = end .tick-ready (l .device A w) (l .chip B .level (l .device B w)) h n
-  hears-ready A end w (To A c) h t n = h
-  hears-ready A end w (To B c) h t n = end .call-ready (l .device B w) c h t
-  hears-ready B end w (To A c) h t n = end .call-ready (l .device A w) c h t
-  hears-ready B end w (To B c) h t n = h
-  hears-ready s end w Elsewhere h t n = h
+      → (w : W) (k : Happens Call) (e : State (other s)) → Becomes l (other s) w k e → Ready (l .device (other s) w) → steadyFrom l s w k ≡ true
+      → faults g (wayFrom l s .level w) (deedFrom l s w k) (half (l .device (other s) w)) ≡ false → Ready e
+  hears-ready A {Ready} end w Together e q h t n = subst Ready (sym q) (end .tick-ready (l .device B w) (l .chip A .level (l .device A w)) h n)
+  hears-ready B {Ready} end w Together e q h t n = subst Ready (sym q) (end .tick-ready (l .device A w) (l .chip B .level (l .device B w)) h n)
+  hears-ready A {Ready} end w (To A c) e q h t n = subst Ready (sym q) h
+  hears-ready A {Ready} end w (To B c) e q h t n = subst Ready (sym q) (end .call-ready (l .device B w) c h t)
+  hears-ready B {Ready} end w (To A c) e q h t n = subst Ready (sym q) (end .call-ready (l .device A w) c h t)
+  hears-ready B {Ready} end w (To B c) e q h t n = subst Ready (sym q) h
+  hears-ready s {Ready} end w Elsewhere e q h t n = subst Ready (sym q) h
+  hears-ready s end w Upset e q h t n = absurd (true≢false (sym t))
 
   hears-half : {g : Format} (s : Side) {Ready : State (other s) → Type 0} {half : State (other s) → ReceiverHalf} → ReceivingEnd (l .chip (other s)) g Ready half
-      → (w : W) (k : Happens Call) → Ready (l .device (other s) w) → steadyFrom l s w k ≡ true
-      → half (deviceAfter l (other s) w k) ≡ receiverAfter g (wayFrom l s .level w) (deedFrom l s w k) (half (l .device (other s) w))
-  hears-half A end w Together h t = end .tick-half (l .device B w) (l .chip A .level (l .device A w)) h
-  hears-half B end w Together h t = end .tick-half (l .device A w) (l .chip B .level (l .device B w)) h
-  hears-half {g = g} A {half = half} end w (To A c) h t =
-      unheard (l .chip A) (l .device A w) c g (wayFrom l A .level w) (half (l .device B w))
-  hears-half {g = g} A {half = half} end w (To B c) h t =
-      end .call-half (l .device B w) c h t ∙ empties (l .chip B) (l .device B w) c g (wayFrom l A .level w) (half (l .device B w))
-  hears-half {g = g} B {half = half} end w (To A c) h t =
-      end .call-half (l .device A w) c h t ∙ empties (l .chip A) (l .device A w) c g (wayFrom l B .level w) (half (l .device A w))
-  hears-half {g = g} B {half = half} end w (To B c) h t =
-      unheard (l .chip B) (l .device B w) c g (wayFrom l B .level w) (half (l .device A w))
-  hears-half s end w Elsewhere h t = refl
+      → (w : W) (k : Happens Call) (e : State (other s)) → Becomes l (other s) w k e → Ready (l .device (other s) w) → steadyFrom l s w k ≡ true
+      → half e ≡ receiverAfter g (wayFrom l s .level w) (deedFrom l s w k) (half (l .device (other s) w))
+  hears-half A {half = half} end w Together e q h t = ap half q ∙ end .tick-half (l .device B w) (l .chip A .level (l .device A w)) h
+  hears-half B {half = half} end w Together e q h t = ap half q ∙ end .tick-half (l .device A w) (l .chip B .level (l .device B w)) h
+  hears-half {g = g} A {half = half} end w (To A c) e q h t = ap half q ∙ unheard (l .chip A) (l .device A w) c g (wayFrom l A .level w) (half (l .device B w))
+  hears-half {g = g} A {half = half} end w (To B c) e q h t =
+      ap half q ∙ end .call-half (l .device B w) c h t ∙ empties (l .chip B) (l .device B w) c g (wayFrom l A .level w) (half (l .device B w))
+  hears-half {g = g} B {half = half} end w (To A c) e q h t =
+      ap half q ∙ end .call-half (l .device A w) c h t ∙ empties (l .chip A) (l .device A w) c g (wayFrom l B .level w) (half (l .device A w))
+  hears-half {g = g} B {half = half} end w (To B c) e q h t = ap half q ∙ unheard (l .chip B) (l .device B w) c g (wayFrom l B .level w) (half (l .device A w))
+  hears-half s {half = half} end w Elsewhere e q h t = ap half q
+  hears-half s end w Upset e q h t = absurd (true≢false (sym t))
 
   pub side-receives : Joins l → {g : Format} (s : Side) {Ready : State (other s) → Type 0} {half : State (other s) → ReceiverHalf}
       → ReceivingEnd (l .chip (other s)) g Ready half → Receives (wayFrom l s) g (λ w. Ready (l .device (other s) w)) (λ w. half (l .device (other s) w))
-  side-receives joins s {Ready} {half} end =
+  side-receives joins s end =
       record {
         unread = λ w h. end .unread (l .device (other s) w) h;
         character = λ w h. end .character (l .device (other s) w) h;
         no-flag = λ w h. end .no-flag (l .device (other s) w) h;
-        ready = λ w x h t n. subst Ready (sym (joins .follows (other s) w x)) (hears-ready s end w (l .happens w x) h t n);
-        follows = λ w x h t. ap half (joins .follows (other s) w x) ∙ hears-half s end w (l .happens w x) h t;
+        ready = λ w x h t n. hears-ready s end w (l .happens w x) (l .device (other s) (l .next w x)) (joins .follows (other s) w x) h t n;
+        follows = λ w x h t. hears-half s end w (l .happens w x) (l .device (other s) (l .next w x)) (joins .follows (other s) w x) h t;
       }
 
 -- == the promise ==
 
--- each way of the line, from two devices that have sent nothing and heard nothing, after one joined tick: what else a chip's calls and ticks do, and
+-- each way of the line, from a device whose sending half is idle to one whose receiving half waits, with nothing unread, after one joined tick: what else a chip's calls and ticks do, and
 -- whatever happens on the other way, does not touch it
 module _ {W X : Type 0} {State Call : Side → Type 0} {l : Line W X State Call} (joins : Joins l) {f g : Format} (fit : Fit f g) (s : Side)
     {S : State s → Type 0} {sender : State s → SenderHalf} (sending : SendingEnd (l .chip s) f S sender)
     {R : State (other s) → Type 0} {receiver : State (other s) → ReceiverHalf} (receiving : ReceivingEnd (l .chip (other s)) g R receiver)
     (w : W) (ready : S (l .device s w)) (listens : R (l .device (other s) w))
-    (idle : sender (l .device s w) ≡ idleSender) (unheard : receiver (l .device (other s) w) ≡ idleReceiver)
+    (idle : sender (l .device s w) ≡ idleSender) (waits : receiver (l .device (other s) w) .state ≡ waiting) (read : receiver (l .device (other s) w) .unread ≡ 0)
     (x : X) (together : l .happens w x ≡ Together)
     (xs : List X) (ok : allAllowed (wayFrom l s) (frameLength f) (noLog (l .next w x)) xs ≡ true) where
   from : Sends (wayFrom l s) f (λ w. S (l .device s w)) (λ w. sender (l .device s w))
@@ -130,7 +133,7 @@ module _ {W X : Type 0} {State Call : Side → Type 0} {l : Line W X State Call}
   to = side-receives l joins s receiving
 
   begins : Begins (λ w. S (l .device s w)) (λ w. R (l .device (other s) w)) (λ w. sender (l .device s w)) (λ w. receiver (l .device (other s) w)) (l .next w x)
-  begins = tick-begins from to w x (ap (deedFrom l s w) together) (ap (steadyFrom l s w) together) ready listens idle unheard
+  begins = tick-begins from to w x (ap (deedFrom l s w) together) (ap (steadyFrom l s w) together) ready listens idle waits read
 
   pub line-delivers : Promised (wayFrom l s) f (runs (wayFrom l s) (noLog (l .next w x)) xs)
   line-delivers = way-delivers fit from to (l .next w x) begins xs ok

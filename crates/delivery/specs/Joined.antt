@@ -2,7 +2,7 @@
 -- Assumes nothing.
 use Prim.Native.Nat.{ℕ}
 use mathlib.Core.Path.{_≡_}
-use mathlib.Core.Bool.{Bool, true, cond}
+use mathlib.Core.Bool.{Bool, true, false, cond}
 use Rattle.delivery.specs.OneWay.{Deed, Ticks, Writes, Reads, Passes, OneWay}
 
 -- == a chip ==
@@ -36,11 +36,12 @@ abbrev pub other : Side → Side
 other A = B
 other B = A
 
--- what a step of a bench is to two chips on a line: a joined tick, a call to the one at a side, or nothing
+-- what a step of a bench is to two chips on a line: a joined tick, a call to the one at a side, nothing to either, or anything else
 pub data Happens (Call : Side → Type 0) : Type 0 where
   Together : Happens Call
   To : (s : Side) → Call s → Happens Call
   Elsewhere : Happens Call
+  Upset : Happens Call
 
 -- a bench with states W and steps X that has two chips on a line: the chip and the device at each side, the bench after a step, and what the step is
 -- to the two
@@ -51,18 +52,20 @@ pub record Line (W X : Type 0) (State Call : Side → Type 0) : Type 0 where
   pub happens : W → X → Happens Call
 
 module _ {W X : Type 0} {State Call : Side → Type 0} (l : Line W X State Call) where
-  -- each device takes its part of a joined tick, with the level that the other one sends; a call is for its own device alone
-  abbrev pub deviceAfter : (s : Side) → W → Happens Call → State s
-  deviceAfter s w Together = l .chip s .tick (l .device s w) (l .chip (other s) .level (l .device (other s) w))
-  deviceAfter A w (To A c) = l .chip A .next (l .device A w) c
-  deviceAfter A w (To B c) = l .device A w
-  deviceAfter B w (To A c) = l .device B w
-  deviceAfter B w (To B c) = l .chip B .next (l .device B w) c
-  deviceAfter s w Elsewhere = l .device s w
+  -- what the device at a side then becomes: it takes its part of a joined tick, with the level that the other one sends; a call is for its own
+  -- device alone; of anything else nothing is said
+  abbrev pub Becomes : (s : Side) → W → Happens Call → State s → Type 0
+  Becomes s w Together e = e ≡ l .chip s .tick (l .device s w) (l .chip (other s) .level (l .device (other s) w))
+  Becomes A w (To A c) e = e ≡ l .chip A .next (l .device A w) c
+  Becomes A w (To B c) e = e ≡ l .device A w
+  Becomes B w (To A c) e = e ≡ l .device B w
+  Becomes B w (To B c) e = e ≡ l .chip B .next (l .device B w) c
+  Becomes s w Elsewhere e = e ≡ l .device s w
+  Becomes s w Upset e = Unit {0}
 
   -- the bench joins the two
   pub record Joins : Type 0 where
-    pub follows : (s : Side) (w : W) (x : X) → l .device s (l .next w x) ≡ deviceAfter s w (l .happens w x)
+    pub follows : (s : Side) (w : W) (x : X) → Becomes s w (l .happens w x) (l .device s (l .next w x))
 
 -- == the way from a side to the other ==
 
@@ -81,6 +84,7 @@ module _ {W X : Type 0} {State Call : Side → Type 0} (l : Line W X State Call)
   deedFrom B w (To A c) = reading (l .chip A) (l .device A w) c
   deedFrom B w (To B c) = writing (l .chip B) (l .device B w) c
   deedFrom s w Elsewhere = Passes
+  deedFrom s w Upset = Passes
 
   abbrev pub steadyFrom : Side → W → Happens Call → Bool
   steadyFrom s w Together = true
@@ -89,6 +93,7 @@ module _ {W X : Type 0} {State Call : Side → Type 0} (l : Line W X State Call)
   steadyFrom B w (To A c) = l .chip A .leavesReceiving (l .device A w) c
   steadyFrom B w (To B c) = l .chip B .leavesSending (l .device B w) c
   steadyFrom s w Elsewhere = true
+  steadyFrom s w Upset = false
 
   abbrev pub wayFrom : Side → OneWay W X
   wayFrom s =

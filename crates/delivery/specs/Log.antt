@@ -8,7 +8,7 @@ pub record Entry : Type 0 where
   pub at : ℕ
   pub value : ℕ
 
--- what was written at one end, what came at the other, and what was read there while it was unread
+-- what was written at one end, what came at the other, and the values read there while a character was unread
 pub record Way : Type 0 where
   pub written : List Entry
   pub came : List Entry

@@ -10,7 +10,7 @@ use Rattle.line_rules.specs.declared.Format.{Format}
 use Rattle.line_rules.specs.Sending.{cut, frameLength, stopSample}
 use Rattle.link_rules.specs.declared.SenderHalf.{SenderHalf}
 use Rattle.delivery.specs.Log.{Entry}
-use Rattle.delivery.specs.OneWay.{OneWay, Logged}
+use Rattle.delivery.specs.OneWay.{OneWay, Logged, latest}
 
 -- when the frames of these characters are over: each begins once it is written and the one before it is over, and takes L ticks.
 -- A sender is idle from then on: no frame under way, nothing waiting (proofs/Carried.antt, `way-idles`)
@@ -49,7 +49,7 @@ module _ (f : Format) where
     all : {xs : List Entry} → Answered ys xs → Delivered now ys xs
     due : {x : Entry} {xs : List Entry} → now < x .at + (L + D) → Delivered now ys xs → Delivered now ys (x ∷ xs)
 
--- each of them was logged by now, so that one that is due comes after at most L+D more joined ticks
+-- each of them was logged by now
 pub data ByNow (now : ℕ) : List Entry → Type 0 where
   nothing : ByNow now []
   one : {x : Entry} {xs : List Entry} → x .at ≤ now → ByNow now xs → ByNow now (x ∷ xs)
@@ -71,10 +71,11 @@ pub record FirstWrites (f : Format) (vs : List ℕ) (xs : List Entry) : Type 0 w
   pub written : xs ≡ later ++ first
   pub read : vs ≡ map (λ (x : Entry). cut f (x .value)) first
 
--- the same with the first one first: what was read is a beginning of what was written, cut
-pub record InOrder (f : Format) (read written : List ℕ) : Type 0 where
+-- the same with the first one first: what was read is a beginning of what was written, cut, and all of it where the run is finished
+pub record InOrder (f : Format) (finished : Type 0) (read written : List ℕ) : Type 0 where
   pub later : List ℕ
-  pub first : map (cut f) written ≡ read ++ later
+  pub begins : map (cut f) written ≡ read ++ later
+  pub all : finished → map (cut f) written ≡ read
 
 -- 'idle' in a sending half: no frame under way and nothing waiting exactly when the frames of all that was written are over
 pub record Idles (f : Format) (s : SenderHalf) (now : ℕ) (xs : List Entry) : Type 0 where
@@ -89,3 +90,8 @@ pub record Promised {W X : Type 0} (o : OneWay W X) (f : Format) (w : Logged W) 
   pub reads : FirstWrites f (w .log .read) (w .log .written)
   pub permission : o .mayWrite (w .bench) ≡ hasBegun (frameLength f) (w .now) (w .log .written)
   pub no-flag : o .flagged (w .bench) ≡ false
+
+-- a run is finished where L+D joined ticks have passed since the latest write, and nothing is unread
+pub record Finished {W X : Type 0} (o : OneWay W X) (f : Format) (w : Logged W) : Type 0 where
+  pub passed : latest (w .log .written) + (L f + D f) ≤ w .now
+  pub read : o .unread (w .bench) ≡ false

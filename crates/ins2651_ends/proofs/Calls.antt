@@ -27,12 +27,13 @@ use Rattle.ins2651_rules.specs.Pinning.{pinned}
 use Rattle.ins2651_rules.specs.Status.{statusByte}
 use Rattle.ins2651_rules.specs.Runs.{Call, Reset, Read, Write, SetPins, Transmit, Receive, Outputs, next, byCall, otherwise, atRead, atWrite, atPins, atOutputs}
 use Rattle.ins2651_rules.specs.Rows.{refusal}
+use Rattle.ins2651_rules.specs.History.{reads, writesHolding}
 use Rattle.ins2651_rules.proofs.Done.{does-read, does-write, does-pins}
 use Rattle.ins2651_rules.proofs.Refused.{read-address}
 use Rattle.ins2651_rules.proofs.Leaves.{SameErrors, withSyns}
 use Rattle.ins2651_rules.proofs.WritesLeave.{NoErrors, ErrorsBy}
 use Rattle.ins2651_rules.proofs.StatusBits.{status-bits}
-use Rattle.ins2651_ends.specs.OnALine.{statusBit, mayWrite, unread, flagged, character, writes, valueOf, reads, refusedOr}
+use Rattle.ins2651_ends.specs.OnALine.{statusBit, mayWrite, unread, flagged, character, valueOf, refusedOr}
 
 -- == what a bench sees ==
 
@@ -66,7 +67,7 @@ is-level false = refl
 
 -- == which calls write and read ==
 
-pub writes-is : (c : Call) → writes c ≡ true → c ≡ Write 0 (valueOf c)
+pub writes-is : (c : Call) → writesHolding c ≡ true → c ≡ Write 0 (valueOf c)
 writes-is Reset h = absurd (true≢false (sym h))
 writes-is (Read address) h = absurd (true≢false (sym h))
 writes-is (Write address v) h = ap (λ (k : ℕ). Write k v) (eqb-true address 0 h)
@@ -75,7 +76,7 @@ writes-is Transmit h = absurd (true≢false (sym h))
 writes-is (Receive x) h = absurd (true≢false (sym h))
 writes-is Outputs h = absurd (true≢false (sym h))
 
-reads-is : (c : Call) → reads c ≡ true → c ≡ Read 0
+reads-is : (c : Call) → reads 0 c ≡ true → c ≡ Read 0
 reads-is Reset h = absurd (true≢false (sym h))
 reads-is (Read address) h = ap Read (eqb-true address 0 h)
 reads-is (Write address v) h = absurd (true≢false (sym h))
@@ -101,12 +102,12 @@ none true n = absurd (n refl)
 none false n = refl
 
 -- neither is ever refused, so that a refused call is none of them
-pub refused-writes-nothing : (d : Device) (c : Call) → (refusal d c ≡ 0 → ⊥) → writes c ≡ false
+pub refused-writes-nothing : (d : Device) (c : Call) → (refusal d c ≡ 0 → ⊥) → writesHolding c ≡ false
 unfolding writeRefusal
-refused-writes-nothing d c n = none (writes c) (λ e. n (ap (refusal d) (writes-is c e)))
+refused-writes-nothing d c n = none (writesHolding c) (λ e. n (ap (refusal d) (writes-is c e)))
 
-pub refused-reads-nothing : (d : Device) (c : Call) → (refusal d c ≡ 0 → ⊥) → reads c ≡ false
-refused-reads-nothing d c n = none (reads c) (λ e. n (ap (refusal d) (reads-is c e)))
+pub refused-reads-nothing : (d : Device) (c : Call) → (refusal d c ≡ 0 → ⊥) → reads 0 c ≡ false
+refused-reads-nothing d c n = none (reads 0 c) (λ e. n (ap (refusal d) (reads-is c e)))
 
 -- == a call that changes little ==
 
@@ -123,15 +124,15 @@ pub record Light (d : Device) (c : Call) : Type 0 where
   pub accepted : next d c .registers .accepted ≡ d .registers .accepted
   pub command : next d c .registers .command ≡ d .registers .command
   pub pins : next d c .pins ≡ pinsAfter c (d .pins)
-  pub sender : next d c .sender ≡ cond (writes c) (loaded (d .sender) (valueOf c)) (d .sender)
-  pub receiver : next d c .receiver ≡ cond (reads c) (emptied (d .receiver)) (d .receiver)
+  pub sender : next d c .sender ≡ cond (writesHolding c) (loaded (d .sender) (valueOf c)) (d .sender)
+  pub receiver : next d c .receiver ≡ cond (reads 0 c) (emptied (d .receiver)) (d .receiver)
   pub errors : SameErrors (d .flags) (next d c .flags)
 
 module _ (d : Device) (h : inRange d ≡ true) where
   -- SYN bytes, pointers, pins, halves and marks
   lightly : (k : Call) {a b c m n x y : ℕ} {p : Pins} {s : SenderHalf} {r : ReceiverHalf}
       → next d k ≡ withParts d (withSyns (d .registers) a b c m n) p s r (withEmpty (withChange (d .flags) y) x)
-      → p ≡ pinsAfter k (d .pins) → s ≡ cond (writes k) (loaded (d .sender) (valueOf k)) (d .sender) → r ≡ cond (reads k) (emptied (d .receiver)) (d .receiver) → Light d k
+      → p ≡ pinsAfter k (d .pins) → s ≡ cond (writesHolding k) (loaded (d .sender) (valueOf k)) (d .sender) → r ≡ cond (reads 0 k) (emptied (d .receiver)) (d .receiver) → Light d k
   lightly k q p s r =
       record {
         mode1 = ap (λ (e : Device). e .registers .mode1) q;

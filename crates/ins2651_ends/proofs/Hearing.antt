@@ -12,6 +12,7 @@ use Rattle.line_rules.specs.declared.Heard.the-variants.{Nothing, Character}
 use Rattle.line_rules.specs.Sending.{bit, on}
 use Rattle.line_rules.proofs.Bits.{on-bit}
 use Rattle.line_rules.proofs.Choice.{all, neither}
+use Rattle.line_rules.proofs.Table.{both}
 use Rattle.link_rules.specs.declared.ReceiverHalf.{ReceiverHalf}
 use Rattle.link_rules.specs.declared.Received.{Received}
 use Rattle.link_rules.specs.Parts.{emptied}
@@ -28,6 +29,7 @@ use Rattle.ins2651_rules.specs.Refusals.{levelRefusal}
 use Rattle.ins2651_rules.specs.Ticks.{noted, received, receiveTick}
 use Rattle.ins2651_rules.specs.Runs.{Call, Reset, Read, Write, SetPins, Transmit, Receive, Outputs, next}
 use Rattle.ins2651_rules.specs.Rows.{refusal}
+use Rattle.ins2651_rules.specs.History.{reads}
 use Rattle.ins2651_rules.proofs.Settled.{settled-is}
 use Rattle.ins2651_rules.proofs.Done.{does-receive}
 use Rattle.ins2651_rules.proofs.Refused.{write-address, refused-unchanged}
@@ -37,7 +39,7 @@ use Rattle.ins2651_rules.proofs.Leaves.{SameErrors, TransmitLeaves, transmit-le
 use Rattle.ins2651_rules.proofs.WritesLeave.{NoErrors, CommandWritten, command-write-leaves}
 use Rattle.ins2651_rules.proofs.InRange.{next-in}
 use Rattle.delivery.specs.Ends.{receiveOn, faulty, tickFaults, ReceivingEnd}
-use Rattle.ins2651_ends.specs.OnALine.{flagged, reads, leavesReceiving, refusedOr, ins2651}
+use Rattle.ins2651_ends.specs.OnALine.{flagged, normal, leavesReceiving, refusedOr, ins2651}
 use Rattle.ins2651_ends.proofs.Calls.{unread-is, character-is, flagged-is, is-level, refused-or, refused-reads-nothing, same-none, command-sets-none, light, pinsAfter, Light, light-leaves}
 
 -- it listens in the format g, and no error flag is set
@@ -127,7 +129,7 @@ module _ {g : Format} (d : Device) (x : ℕ) (h : Hearing g d) (n : levelRefusal
 
 -- a read empties the half
 abbrev taken : Call → ReceiverHalf → ReceiverHalf
-taken c r = cond (reads c) (emptied r) r
+taken c r = cond (reads 0 c) (emptied r) r
 
 module _ {g : Format} (d : Device) (h : Hearing g d) where
   -- a call that changes little, and leaves DCD low
@@ -157,7 +159,7 @@ module _ {g : Format} (d : Device) (h : Hearing g d) where
   hears-done (Write zero v) n l = hears-lightly (Write 0 v) n refl (h .carried)
   hears-done (Write (suc zero) v) n l = hears-lightly (Write 1 v) n refl (h .carried)
   hears-done (Write (suc (suc zero)) v) n l = absurd (true≢false (sym l))
-  hears-done (Write (suc (suc (suc zero))) v) n l = hears-commanded v n l
+  hears-done (Write (suc (suc (suc zero))) v) n l = hears-commanded v n (both (normal v) (receiveEnable v) l .1)
   hears-done (Write (suc (suc (suc (suc i)))) v) n l = absurd (omega (arith, write-address (settled d .registers) (suc (suc (suc (suc i)))) v n))
   hears-done (SetPins dsr dcd cts) n l = hears-lightly (SetPins dsr dcd cts) n refl l
   hears-done Transmit n l = hears-through d h

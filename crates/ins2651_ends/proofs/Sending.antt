@@ -26,6 +26,7 @@ use Rattle.ins2651_rules.specs.RegisterWrites.{stored}
 use Rattle.ins2651_rules.specs.Ticks.{sent, transmitTick, transmit}
 use Rattle.ins2651_rules.specs.Runs.{Call, Reset, Read, Write, SetPins, Transmit, Receive, Outputs, next}
 use Rattle.ins2651_rules.specs.Rows.{refusal}
+use Rattle.ins2651_rules.specs.History.{writesHolding}
 use Rattle.ins2651_rules.proofs.Settled.{settled-is}
 use Rattle.ins2651_rules.proofs.Done.{does-transmit}
 use Rattle.ins2651_rules.proofs.Refused.{write-address, refused-unchanged}
@@ -35,7 +36,7 @@ use Rattle.ins2651_rules.proofs.Leaves.{ReceiveLeaves, receive-leaves}
 use Rattle.ins2651_rules.proofs.WritesLeave.{CommandWritten, command-write-leaves}
 use Rattle.ins2651_rules.proofs.InRange.{next-in}
 use Rattle.delivery.specs.Ends.{SendingEnd}
-use Rattle.ins2651_ends.specs.OnALine.{mayWrite, writes, valueOf, leavesSending, refusedOr, ins2651}
+use Rattle.ins2651_ends.specs.OnALine.{mayWrite, valueOf, normal, leavesSending, refusedOr, ins2651}
 use Rattle.ins2651_ends.proofs.Calls.{may-write-is, is-level, refused-or, refused-writes-nothing, light, pinsAfter, Light, light-leaves}
 
 -- it may start frames in the format f, and no break is on
@@ -105,7 +106,7 @@ sends-ticked {f = f} d x h n =
 
 -- a write loads the half
 abbrev written : Call → SenderHalf → SenderHalf
-written c s = cond (writes c) (loaded s (valueOf c)) s
+written c s = cond (writesHolding c) (loaded s (valueOf c)) s
 
 module _ {f : Format} (d : Device) (h : Sending f d) where
   -- a call that changes little, and leaves CTS low
@@ -137,7 +138,7 @@ module _ {f : Format} (d : Device) (h : Sending f d) where
   sends-done (Write zero v) n l = sends-lightly (Write 0 v) n refl (h .clear)
   sends-done (Write (suc zero) v) n l = sends-lightly (Write 1 v) n refl (h .clear)
   sends-done (Write (suc (suc zero)) v) n l = absurd (true≢false (sym l))
-  sends-done (Write (suc (suc (suc zero))) v) n l = let t = both (transmitEnable v) (not (forceBreak v)) l in sends-commanded v n (t .0) (not-so (forceBreak v) (t .1))
+  sends-done (Write (suc (suc (suc zero))) v) n l = let t = both (normal v && transmitEnable v) (not (forceBreak v)) l in sends-commanded v n (both (normal v) (transmitEnable v) (t .0) .1) (not-so (forceBreak v) (t .1))
   sends-done (Write (suc (suc (suc (suc i)))) v) n l = absurd (omega (arith, write-address (settled d .registers) (suc (suc (suc (suc i)))) v n))
   sends-done (SetPins dsr dcd cts) n l = sends-lightly (SetPins dsr dcd cts) n refl l
   sends-done Transmit n l = absurd (true≢false (sym l))

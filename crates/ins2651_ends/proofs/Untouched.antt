@@ -17,13 +17,14 @@ use Rattle.ins2651_rules.specs.Ranges.{inRange, settled}
 use Rattle.ins2651_rules.specs.Refusals.{writeRefusal}
 use Rattle.ins2651_rules.specs.Runs.{Call, Reset, Read, Write, SetPins, Transmit, Receive, Outputs, next, after}
 use Rattle.ins2651_rules.specs.Rows.{refusal}
+use Rattle.ins2651_rules.specs.History.{reads, writesHolding, resets}
 use Rattle.ins2651_rules.proofs.Settled.{settled-is, reset-in}
 use Rattle.ins2651_rules.proofs.Refused.{write-address, refused-unchanged}
 use Rattle.ins2651_rules.proofs.WritesLeave.{NoErrors, ModeWritten, mode-write-leaves, CommandWritten, command-write-leaves}
 use Rattle.ins2651_rules.proofs.Rules.{off-command-drops}
 use Rattle.ins2651_rules.proofs.InRange.{next-in}
-use Rattle.ins2651_ends.specs.OnALine.{unread, writes, reads, valueOf}
-use Rattle.ins2651_ends.specs.Fresh.{isReset, quiet, allQuiet, quietSinceReset}
+use Rattle.ins2651_ends.specs.OnALine.{unread, valueOf}
+use Rattle.ins2651_ends.specs.Fresh.{quiet, allQuiet, quietSinceReset}
 use Rattle.ins2651_ends.proofs.Calls.{unread-is, by-refusal, writes-is, same-none, command-sets-none, light, Light, light-leaves}
 
 pub record Untouched (d : Device) : Type 0 where
@@ -42,13 +43,13 @@ none-unread d h = unread-is d (h .within) ∙ ap (λ (r : ReceiverHalf). on (r .
 
 module _ (d : Device) (h : Untouched d) where
   -- a call that changes little and writes nothing; a read finds nothing to empty
-  lightly : (c : Call) → refusal d c ≡ 0 → light c ≡ true → writes c ≡ false → Untouched (next d c)
+  lightly : (c : Call) → refusal d c ≡ 0 → light c ≡ true → writesHolding c ≡ false → Untouched (next d c)
   lightly c n l s =
       let w : Light d c = light-leaves d c (h .within) n l in
       record {
         within = next-in d c (h .within);
         sender = w .sender ∙ ap (λ (b : Bool). cond b (loaded (d .sender) (valueOf c)) (d .sender)) s ∙ h .sender;
-        receiver = w .receiver ∙ ap (λ (r : ReceiverHalf). cond (reads c) (emptied r) r) (h .receiver) ∙ either (λ (r : ReceiverHalf). r ≡ idleReceiver) (reads c) refl refl;
+        receiver = w .receiver ∙ ap (λ (r : ReceiverHalf). cond (reads 0 c) (emptied r) r) (h .receiver) ∙ either (λ (r : ReceiverHalf). r ≡ idleReceiver) (reads 0 c) refl refl;
         no-errors = same-none (w .errors) (h .no-errors);
       }
 
@@ -110,7 +111,7 @@ untouched-along d (c ∷ cs) q h =
     untouched-along (next d c) cs (t .1) (untouched-on d h c (t .0))
 
 -- the device after a reset
-resets-to : (d : Device) (c : Call) → isReset c ≡ true → next d c ≡ resetDevice
+resets-to : (d : Device) (c : Call) → resets c ≡ true → next d c ≡ resetDevice
 resets-to d Reset e = refl
 resets-to d (Read address) e = absurd (true≢false (sym e))
 resets-to d (Write address v) e = absurd (true≢false (sym e))
@@ -126,15 +127,15 @@ one-of false b e p q = q e
 pub since-reset-untouched : (d : Device) (cs : List Call) → quietSinceReset cs ≡ true → Untouched (after d cs)
 since-reset-untouched d [] q = absurd (true≢false (sym q))
 since-reset-untouched d (c ∷ cs) q =
-    one-of (isReset c && allQuiet cs) (quietSinceReset cs) q
-    (λ e. let t = both (isReset c) (allQuiet cs) e in
+    one-of (resets c && allQuiet cs) (quietSinceReset cs) q
+    (λ e. let t = both (resets c) (allQuiet cs) e in
     untouched-along (next d c) cs (t .1) (subst Untouched (sym (resets-to d c (t .0))) reset-untouched))
     (λ e. since-reset-untouched (next d c) cs e)
 
 -- a quiet call writes no character
-pub quiet-writes-nothing : (c : Call) → quiet c ≡ true → writes c ≡ false
-quiet-writes-nothing c q = go (writes c) refl
+pub quiet-writes-nothing : (c : Call) → quiet c ≡ true → writesHolding c ≡ false
+quiet-writes-nothing c q = go (writesHolding c) refl
   where
-    go : (b : Bool) → writes c ≡ b → writes c ≡ false
+    go : (b : Bool) → writesHolding c ≡ b → writesHolding c ≡ false
     go true e = absurd (true≢false (sym q ∙ ap quiet (writes-is c e)))
     go false e = e

@@ -3,10 +3,8 @@
 use mathlib.Core.Bool.{Bool, true, false, not, _&&_, _||_}
 use mathlib.Core.List.{List, [], _∷_}
 use lib.Dec.{eqb}
-use Rattle.ins2651_rules.specs.Runs.{Call, byCall, otherwise, atReset, atWrite, atTransmit, atReceive}
-
-abbrev pub isReset : Call → Bool
-isReset c = byCall (atReset true (otherwise false)) c
+use Rattle.ins2651_rules.specs.Runs.{Call, byCall, otherwise, atWrite, atTransmit, atReceive}
+use Rattle.ins2651_rules.specs.History.{resets}
 
 -- any call but a tick and a write of address 0
 abbrev pub quiet : Call → Bool
@@ -19,4 +17,4 @@ allQuiet (c ∷ cs) = quiet c && allQuiet cs
 -- a reset is among the calls, with such calls alone behind it
 abbrev pub quietSinceReset : List Call → Bool
 quietSinceReset [] = false
-quietSinceReset (c ∷ cs) = (isReset c && allQuiet cs) || quietSinceReset cs
+quietSinceReset (c ∷ cs) = (resets c && allQuiet cs) || quietSinceReset cs

@@ -10,6 +10,7 @@ use Rattle.ins2651_rules.specs.RegisterReads.{read}
 use Rattle.ins2651_rules.specs.Ticks.{transmit}
 use Rattle.ins2651_rules.specs.Runs.{Call, Transmit, Receive, next, byCall, otherwise, atRead, atWrite, atPins, atTransmit, atReceive, atOutputs}
 use Rattle.ins2651_rules.specs.Rows.{refusal}
+use Rattle.ins2651_rules.specs.History.{reads, writesHolding}
 use Rattle.delivery.specs.Joined.{Chip}
 
 -- == what a bench sees ==
@@ -40,35 +41,33 @@ levelOf d = on (transmit d .level)
 
 -- == what a call is ==
 
--- a write of address 0 writes a character, the value ..
-abbrev pub writes : Call → Bool
-writes c = byCall (atWrite (λ address v. eqb address 0) (otherwise false)) c
-
+-- the character that a write of address 0 writes
 abbrev pub valueOf : Call → ℕ
 valueOf c = byCall (atWrite (λ address v. v) (otherwise 0)) c
 
--- .. and a read of address 0 reads one
-abbrev pub reads : Call → Bool
-reads c = byCall (atRead (λ address. eqb address 0) (otherwise false)) c
+-- a command in normal operation: bits 7-6 at 00
+abbrev pub normal : ℕ → Bool
+normal v = not (has 64 v) && not (has 128 v)
 
--- a done call leaves alone what sending rests on: no reset, no tick of the sender, no mode; a command that leaves transmit on and break off;
--- pins that leave CTS low
+-- a done call leaves alone what sending rests on: no reset, no tick of the sender, no mode; a command in normal operation that leaves transmit on
+-- and break off; pins that leave CTS low
 abbrev pub leavesSending : Call → Bool
 leavesSending c =
     byCall
     (atRead (λ address. true)
-    (atWrite (λ address v. eqb address 0 || eqb address 1 || (eqb address 3 && transmitEnable v && not (forceBreak v)))
+    (atWrite (λ address v. eqb address 0 || eqb address 1 || (eqb address 3 && normal v && transmitEnable v && not (forceBreak v)))
     (atPins (λ dsr dcd cts. eqb cts 0)
     (atReceive (λ x. true)
     (atOutputs true
     (otherwise false)))))) c
 
--- .. or what receiving rests on: no reset, no tick of the receiver, no mode; a command that leaves receive on; pins that leave DCD low
+-- .. or what receiving rests on: no reset, no tick of the receiver, no mode; a command in normal operation that leaves receive
+-- on; pins that leave DCD low
 abbrev pub leavesReceiving : Call → Bool
 leavesReceiving c =
     byCall
     (atRead (λ address. true)
-    (atWrite (λ address v. eqb address 0 || eqb address 1 || (eqb address 3 && receiveEnable v))
+    (atWrite (λ address v. eqb address 0 || eqb address 1 || (eqb address 3 && normal v && receiveEnable v))
     (atPins (λ dsr dcd cts. eqb dcd 0)
     (atTransmit true
     (atOutputs true
@@ -88,12 +87,12 @@ ins2651 =
       level = levelOf;
       tick = λ d x. next (next d Transmit) (Receive (bit x));
       mayWrite = mayWrite;
-      writes = λ d c. writes c;
+      writes = λ d c. writesHolding c;
       value = valueOf;
       leavesSending = refusedOr leavesSending;
       unread = unread;
       character = character;
-      reads = λ d c. reads c;
+      reads = λ d c. reads 0 c;
       flagged = flagged;
       leavesReceiving = refusedOr leavesReceiving;
     }

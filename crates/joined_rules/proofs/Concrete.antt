@@ -173,7 +173,7 @@ permission-told = refl
 
 -- == one way, whatever happens on the other ==
 
--- b writes two characters that a never reads, and a third unasked; a's receive is turned off. On the way from a all is read in time
+-- b writes two characters that a never reads, a third, and a fourth unasked in its place; a's receive is turned off. On the way from a all is read in time
 abbrev one-sided : List Step
 one-sided =
     At A (Write 0 193) ∷ At B (Write 0 90) ∷ Tick ∷ At B (Write 0 91) ∷ At A (Write 0 194) ∷ after 20 (At B (Read 0)
@@ -200,7 +200,7 @@ pub one-sided-right : Promised (wayFrom A) (sends one-stop) (one-way.runs (wayFr
 unfolding part oddOnes parityBit sample link-transmitting.transmit link-hearing.receive line-range.inRange senderInRange receiverInRange formatOf statusByte inRange settled writeRefusal readRegister read writeRegister write pinned setPins transmitTick transmit receiveTick receive tick
 one-sided-right =
     one-way-right A justReset (sequences one-stop two-stops) (record { calls = refl; a-reset = refl; b-reset = refl })
-    (record { starts = refl; no-break = refl; listens = refl; alike = stops-agree .there }) one-sided one-sided-allowed
+    (record { from-normal = record { asynchronous = refl; no-echo = refl; no-loopback = refl }; to-normal = record { asynchronous = refl; no-echo = refl; no-loopback = refl }; starts = refl; no-break = refl; listens = refl; alike = stops-agree .there }) one-sided one-sided-allowed
 
 -- == one way, with as little as it rests on ==
 
@@ -213,7 +213,7 @@ bare-set-up =
 abbrev bare : Pair
 bare = tick (allMoved justReset bare-set-up) .pair
 
--- ticks of a's receiver and b's sender by themselves, commands and pins at both, a look at the outputs, SYN bytes, and three refused calls
+-- ticks of a's receiver and b's sender by themselves, commands and pins at both, a look at the outputs, a SYN byte, and three refused calls
 abbrev busy : List Step
 busy =
     At A (Write 0 193) ∷ At A (Receive 0) ∷ At B Transmit ∷ Tick ∷ At A (Write 3 33) ∷ At B (Write 3 22) ∷ At A Outputs ∷ At B (SetPins 0 2 0)
@@ -222,7 +222,7 @@ busy =
 
 pub bare-open : Open A (allMoved justReset bare-set-up)
 unfolding part oddOnes parityBit sample link-transmitting.transmit link-hearing.receive line-range.inRange senderInRange receiverInRange formatOf statusByte inRange settled writeRefusal readRegister read writeRegister write pinned setPins transmitTick transmit receiveTick receive tick
-bare-open = record { starts = refl; no-break = refl; listens = refl; alike = stops-agree .there }
+bare-open = record { from-normal = record { asynchronous = refl; no-echo = refl; no-loopback = refl }; to-normal = record { asynchronous = refl; no-echo = refl; no-loopback = refl }; starts = refl; no-break = refl; listens = refl; alike = stops-agree .there }
 
 pub busy-allowed : one-way.allAllowed (wayFrom A) (frameLength (sends one-stop)) (noLog bare) busy ≡ true
 unfolding part oddOnes parityBit sample link-transmitting.transmit link-hearing.receive line-range.inRange senderInRange receiverInRange formatOf statusByte inRange settled writeRefusal readRegister read writeRegister write pinned setPins transmitTick transmit receiveTick receive tick

@@ -1,4 +1,5 @@
--- Demand 3 by the steps' own values, from two devices just reset: what a run reads is a beginning of what it writes, cut, the first one first.
+-- Demand 3 by the steps' own values, from two devices just reset: what a run reads is a beginning of what it writes, cut, the first one first, and
+-- all of it where the run is finished.
 -- Assumes nothing.
 use mathlib.Core.Path.{_≡_, sym, subst}
 use mathlib.Core.Bool.{true}
@@ -8,9 +9,9 @@ use Rattle.line_rules.specs.Sending.{frameLength}
 use Rattle.ins2651_rules.specs.Modes.{sendFormat}
 use Rattle.ins2651_rules.specs.Runs.{Reset}
 use Rattle.ins2651_ends.proofs.Untouched.{Untouched, reset-untouched}
-use Rattle.delivery.specs.OneWay.{noLog, puts, gets}
+use Rattle.delivery.specs.OneWay.{Logged, noLog, puts, gets}
 use Rattle.delivery.specs.OneWay as one-way
-use Rattle.delivery.specs.Promise.{InOrder}
+use Rattle.delivery.specs.Promise.{InOrder, Finished}
 use Rattle.delivery.specs.Joined.{Side, A, B, other}
 use Rattle.delivery.proofs.Order.{reads-in-order}
 use Rattle.joined_rules.specs.declared.Pair.{Pair}
@@ -36,16 +37,19 @@ module _ (us : List Step) (quiet : Quiet us) where
     abbrev f : Format
     f = sendFormat (deviceAt s set .registers)
 
+    abbrev end : Logged Pair
+    end = one-way.runs (wayFrom s) (noLog (tick set .pair)) ss
+
     reset-side : (t : Side) → Untouched (deviceAt t justReset)
     reset-side A = reset-untouched
     reset-side B = reset-untouched
 
     -- a set-up and the one joined tick write and read nothing
     pub one-way-in-order : one-way.allAllowed (wayFrom s) (frameLength f) (noLog (tick set .pair)) ss ≡ true
-        → InOrder f (gets (wayFrom s) justReset (us ++ Tick ∷ ss)) (puts (wayFrom s) justReset (us ++ Tick ∷ ss))
+        → InOrder f (Finished (wayFrom s) f end) (gets (wayFrom s) justReset (us ++ Tick ∷ ss)) (puts (wayFrom s) justReset (us ++ Tick ∷ ss))
     one-way-in-order ok =
-        subst (λ vs. InOrder f vs (puts (wayFrom s) justReset (us ++ Tick ∷ ss))) (sym (set-up-gets s justReset us (Tick ∷ ss) quiet (reset-side (other s))))
-        (subst (InOrder f (gets (wayFrom s) (tick set .pair) ss)) (sym (set-up-puts s justReset us (Tick ∷ ss) quiet))
+        subst (λ vs. InOrder f (Finished (wayFrom s) f end) vs (puts (wayFrom s) justReset (us ++ Tick ∷ ss))) (sym (set-up-gets s justReset us (Tick ∷ ss) quiet (reset-side (other s))))
+        (subst (InOrder f (Finished (wayFrom s) f end) (gets (wayFrom s) (tick set .pair) ss)) (sym (set-up-puts s justReset us (Tick ∷ ss) quiet))
         (reads-in-order (wayFrom s) f (tick set .pair) ss (one-way-right s justReset (resetting us) from-reset opened ss ok)))
 
   -- both at once
@@ -54,8 +58,8 @@ module _ (us : List Step) (quiet : Quiet us) where
     up : FreshlySetUp a b justReset (resetting us)
     up = record { from-reset = from-reset; a-holds = a-holds; b-holds = b-holds }
 
-    pub run-in-order : (s : Side) → InOrder (sends (settingsAt a b s)) (gets (wayFrom s) justReset (us ++ Tick ∷ ss)) (puts (wayFrom s) justReset (us ++ Tick ∷ ss))
+    pub run-in-order : (s : Side) → InOrder (sends (settingsAt a b s)) (Finished (wayFrom s) (sends (settingsAt a b s)) (one-way.runs (wayFrom s) (noLog (tick set .pair)) ss)) (gets (wayFrom s) justReset (us ++ Tick ∷ ss)) (puts (wayFrom s) justReset (us ++ Tick ∷ ss))
     run-in-order s =
-        subst (λ (f : Format). InOrder f (gets (wayFrom s) justReset (us ++ Tick ∷ ss)) (puts (wayFrom s) justReset (us ++ Tick ∷ ss)))
+        subst (λ (f : Format). InOrder f (Finished (wayFrom s) f (one-way.runs (wayFrom s) (noLog (tick set .pair)) ss)) (gets (wayFrom s) justReset (us ++ Tick ∷ ss)) (puts (wayFrom s) justReset (us ++ Tick ∷ ss)))
         (sends-is a b pa pb agree justReset (resetting us) up ss ok s)
         (one-way-in-order s (is-open a b pa pb agree justReset (resetting us) up ss ok s) ss (ok-each a b pa pb agree justReset (resetting us) up ss ok s))

@@ -15,6 +15,7 @@ use Rattle.line_rules.specs.Sees.{Alike}
 use Rattle.line_rules.proofs.Ranges.{in-range-bounds}
 use Rattle.line_rules.proofs.Table.{both}
 use Rattle.line_rules.proofs.Choice.{all, each, either, neither}
+use Rattle.link_rules.specs.declared.ReceiverHalf.{ReceiverHalf}
 use Rattle.ins2651_rules.specs.declared.Device.{Device}
 use Rattle.ins2651_rules.specs.Modes.{has, sendFormat, receiveFormat, receiveEnable}
 use Rattle.ins2651_rules.specs.Conditions.{transmitEnabled, clearToSend, modeSet, carrier}
@@ -22,8 +23,9 @@ use Rattle.ins2651_rules.specs.Ranges.{inRange}
 use Rattle.ins2651_rules.specs.Refusals.{writeRefusal}
 use Rattle.ins2651_rules.specs.Runs.{Call, Reset, Read, Write, SetPins, Transmit, Receive, Outputs}
 use Rattle.ins2651_rules.specs.Rows.{refusal}
+use Rattle.ins2651_rules.specs.History.{reads, writesHolding}
 use Rattle.ins2651_rules.proofs.Formats.{format-in}
-use Rattle.ins2651_ends.specs.OnALine.{flagged, statusBit, writes, valueOf, reads, leavesSending, leavesReceiving, refusedOr}
+use Rattle.ins2651_ends.specs.OnALine.{flagged, statusBit, valueOf, leavesSending, leavesReceiving, refusedOr}
 use Rattle.ins2651_ends.proofs.Calls.{writes-is, refused-or}
 use Rattle.ins2651_ends.proofs.Sending.{Sending, sending-end}
 use Rattle.ins2651_ends.proofs.Hearing.{Hearing, receiving-end}
@@ -38,7 +40,7 @@ use Rattle.joined_rules.specs.declared.Pair.{Pair}
 use Rattle.joined_rules.specs.Joining.{tick, ticks}
 use Rattle.joined_rules.specs.Bench.{deviceAt, Step, Tick, At, allMoved, deedFrom, wayFrom, Bench, seenFrom, clock, step, runs}
 use Rattle.joined_rules.specs.Demand3.{Settings, settingsAt, Proper, sends, receives, Agree, FromReset, Holds, FreshlySetUp, fresh, harmless, allowedCall, allowed, allAllowed, NoFlag, Right, Seen, Open}
-use Rattle.joined_rules.proofs.SetUps.{set-up-untouched, starts, no-break, listens, sends-so, receives-so}
+use Rattle.joined_rules.proofs.SetUps.{set-up-untouched, is-normal, starts, no-break, listens, sends-so, receives-so}
 use Rattle.joined_rules.proofs.Ways.{pair-joins}
 
 -- == one way ==
@@ -85,12 +87,12 @@ module _ (s : Side) (p : Pair) (us : List Step) (up : FromReset us) (opened : Op
   module _ (ss : List Step) (ok : one-way.allAllowed (wayFrom s) (frameLength f) (noLog start) ss ≡ true) where
     pub one-way-right : Promised (wayFrom s) f (one-way.runs (wayFrom s) (noLog start) ss)
     one-way-right =
-        line-delivers pair-joins fit s (sending-end f) (receiving-end g) set sends-before hears-before (untouched s .sender) (untouched (other s) .receiver) Tick refl ss ok
+        line-delivers pair-joins fit s (sending-end f) (receiving-end g) set sends-before hears-before (untouched s .sender) (ap (λ (r : ReceiverHalf). r .state) (untouched (other s) .receiver)) (ap (λ (r : ReceiverHalf). r .unread) (untouched (other s) .receiver)) Tick refl ss ok
 
     -- 'idle', as the promise reads it from the log, is what it is in the device
     pub one-way-idles : let end = one-way.runs (wayFrom s) (noLog start) ss in Idles f (deviceAt s (end .bench) .sender) (end .now) (end .log .written)
     one-way-idles =
-        line-idles pair-joins fit s (sending-end f) (receiving-end g) set sends-before hears-before (untouched s .sender) (untouched (other s) .receiver) Tick refl ss ok
+        line-idles pair-joins fit s (sending-end f) (receiving-end g) set sends-before hears-before (untouched s .sender) (ap (λ (r : ReceiverHalf). r .state) (untouched (other s) .receiver)) (ap (λ (r : ReceiverHalf). r .unread) (untouched (other s) .receiver)) Tick refl ss ok
 
 -- == the bench as two ways ==
 
@@ -101,10 +103,10 @@ call-now now v false = (refl, refl)
 
 time-is : (s : Side) (now : ℕ) (p : Pair) (x : Step) → later now (deedFrom s p x) ≡ clock now x
 time-is s now p Tick = refl
-time-is A now p (At A c) = call-now now (valueOf c) (writes c) .0
-time-is A now p (At B c) = call-now now 0 (reads c) .1
-time-is B now p (At A c) = call-now now 0 (reads c) .1
-time-is B now p (At B c) = call-now now (valueOf c) (writes c) .0
+time-is A now p (At A c) = call-now now (valueOf c) (writesHolding c) .0
+time-is A now p (At B c) = call-now now 0 (reads 0 c) .1
+time-is B now p (At A c) = call-now now 0 (reads 0 c) .1
+time-is B now p (At B c) = call-now now (valueOf c) (writesHolding c) .0
 
 step-is : (s : Side) (w : Bench) (x : Step) → one-way.step (wayFrom s) (seenFrom s w) x ≡ seenFrom s (step w x)
 step-is A w x = ap (λ (k : ℕ). record { bench = step w x .pair; now = k; log = step w x .there }) (time-is A (w .now) (w .pair) x)
@@ -134,13 +136,13 @@ harmless-leaves d (Receive x) h = (refl, h)
 harmless-leaves d Outputs h = (refl, refl)
 
 -- a character is written only when it may be
-may-be-written : (L : ℕ) (w : Logged Pair) (s : Side) (c : Call) → allowedCall (deviceAt s (w .bench)) c ≡ true → permits (wayFrom s) L w (cond (writes c) (Writes (valueOf c)) Passes) ≡ true
+may-be-written : (L : ℕ) (w : Logged Pair) (s : Side) (c : Call) → allowedCall (deviceAt s (w .bench)) c ≡ true → permits (wayFrom s) L w (cond (writesHolding c) (Writes (valueOf c)) Passes) ≡ true
 unfolding writeRefusal
-may-be-written L w s c a = each (λ (k : Deed). permits (wayFrom s) L w k ≡ true) (writes c) (λ t. ap (allowedCall (deviceAt s (w .bench))) (sym (writes-is c t)) ∙ a) (λ t. refl)
+may-be-written L w s c a = each (λ (k : Deed). permits (wayFrom s) L w k ≡ true) (writesHolding c) (λ t. ap (allowedCall (deviceAt s (w .bench))) (sym (writes-is c t)) ∙ a) (λ t. refl)
 
 -- a call at the other side is always permitted
-may-be-read : (L : ℕ) (w : Logged Pair) (s : Side) (c : Call) → permits (wayFrom s) L w (cond (reads c) Reads Passes) ≡ true
-may-be-read L w s c = either (λ (k : Deed). permits (wayFrom s) L w k ≡ true) (reads c) refl refl
+may-be-read : (L : ℕ) (w : Logged Pair) (s : Side) (c : Call) → permits (wayFrom s) L w (cond (reads 0 c) Reads Passes) ≡ true
+may-be-read L w s c = either (λ (k : Deed). permits (wayFrom s) L w k ≡ true) (reads 0 c) refl refl
 
 module _ (a b : Settings) where
   abbrev L : Side → ℕ
@@ -182,11 +184,6 @@ pub ticks-are-the-run : (n : ℕ) (p : Pair) → allMoved p (replicate n Tick) �
 ticks-are-the-run zero p = refl
 ticks-are-the-run (suc n) p = ticks-are-the-run n (tick p .pair)
 
--- the devices of the bench are those after the steps
-pub runs-move : (w : Bench) (ss : List Step) → runs w ss .pair ≡ allMoved (w .pair) ss
-runs-move w [] = refl
-runs-move w (s ∷ ss) = runs-move (step w s) ss
-
 -- == the theorems ==
 
 -- two devices, whatever they were, freshly set up in two ways that agree; then any steps that are allowed
@@ -221,6 +218,8 @@ module _ (a b : Settings) (pa : Proper a) (pb : Proper b) (agree : Agree a b) (p
       let d : Device = deviceAt s after-set-up in
       let e : Device = deviceAt (other s) after-set-up in
       record {
+        from-normal = is-normal (settingsAt a b s) d (proper s) (in-range s) (holds s);
+        to-normal = is-normal (settingsAt a b (other s)) e (proper (other s)) (in-range (other s)) (holds (other s));
         starts = starts (settingsAt a b s) d (proper s) (in-range s) (holds s);
         no-break = no-break (settingsAt a b s) d (proper s) (in-range s) (holds s);
         listens = listens (settingsAt a b (other s)) e (proper (other s)) (in-range (other s)) (holds (other s));

@@ -19,14 +19,15 @@ use Rattle.ins2651_rules.specs.RegisterWrites.{stored}
 use Rattle.ins2651_rules.specs.Runs.{Call, after}
 use Rattle.ins2651_rules.proofs.Commands.{transmit-stored, receive-stored}
 use Rattle.ins2651_rules.proofs.InRange.{parts}
-use Rattle.ins2651_ends.specs.OnALine.{writes, valueOf, reads}
+use Rattle.ins2651_ends.specs.OnALine.{valueOf}
+use Rattle.ins2651_rules.specs.History.{reads, writesHolding}
 use Rattle.ins2651_ends.specs.Fresh.{quiet, allQuiet}
 use Rattle.ins2651_ends.proofs.Untouched.{Untouched, none-unread, untouched-on, since-reset-untouched, quiet-writes-nothing}
 use Rattle.delivery.specs.OneWay.{Deed, Ticks, Writes, Reads, Passes, putting, getting, puts, gets}
 use Rattle.delivery.specs.Joined.{Side, A, B, other}
 use Rattle.joined_rules.specs.declared.Pair.{Pair}
 use Rattle.joined_rules.specs.Bench.{deviceAt, Step, Tick, At, moved, allMoved, deedFrom, wayFrom}
-use Rattle.joined_rules.specs.Demand3.{Settings, Proper, sends, receives, noTick, callsAt, Quiet, FromReset, Holds}
+use Rattle.joined_rules.specs.Demand3.{Settings, Proper, sends, receives, noTick, callsAt, Quiet, FromReset, Holds, Normal}
 
 -- == a reset of each side ==
 
@@ -61,12 +62,12 @@ still-untouched B A c p q h = h
 still-untouched B B c p q h = untouched-on (p .b) h c q
 
 -- nothing is written ..
-unwritten : (c : Call) (vs : List ℕ) → quiet c ≡ true → putting (cond (writes c) (Writes (valueOf c)) Passes) vs ≡ vs
+unwritten : (c : Call) (vs : List ℕ) → quiet c ≡ true → putting (cond (writesHolding c) (Writes (valueOf c)) Passes) vs ≡ vs
 unwritten c vs q = rw (quiet-writes-nothing c q)
 
 -- .. nor by a call at the other side
-not-written : (c : Call) (vs : List ℕ) → putting (cond (reads c) Reads Passes) vs ≡ vs
-not-written c vs = either (λ (k : Deed). putting k vs ≡ vs) (reads c) refl refl
+not-written : (c : Call) (vs : List ℕ) → putting (cond (reads 0 c) Reads Passes) vs ≡ vs
+not-written c vs = either (λ (k : Deed). putting k vs ≡ vs) (reads 0 c) refl refl
 
 puts-nothing : (s t : Side) (c : Call) (p : Pair) (vs : List ℕ) → quiet c ≡ true → putting (deedFrom s p (At t c)) vs ≡ vs
 puts-nothing A A c p vs q = unwritten c vs q
@@ -122,6 +123,17 @@ module _ (s : Settings) (d : Device) (proper : Proper s) (within : inRange d ≡
   no-break =
       let kept : stored (s .command) / 8 % 2 ≡ s .command / 8 % 2 = omega arith in
       ap (has 8) (holds .command) ∙ ap (λ (k : ℕ). eqb k 1) kept ∙ proper .no-break
+
+  pub is-normal : Normal d
+  is-normal =
+      let high : stored (s .command) / 32 ≡ s .command / 32 = omega arith in
+      let echo : stored (s .command) / 64 ≡ s .command / 64 = omega (arith, high) in
+      let loopback : stored (s .command) / 128 ≡ s .command / 128 = omega (arith, high) in
+      record {
+        asynchronous = ap (λ (m : ℕ). eqb (m % 4) 0) (holds .mode1) ∙ proper .asynchronous;
+        no-echo = ap (has 64) (holds .command) ∙ ap (λ (k : ℕ). eqb (k % 2) 1) echo ∙ proper .no-echo;
+        no-loopback = ap (has 128) (holds .command) ∙ ap (λ (k : ℕ). eqb (k % 2) 1) loopback ∙ proper .no-loopback;
+      }
 
   pub listens : listening d ≡ true
   listens = all (all (ap (has 4) (holds .command) ∙ receive-stored (s .command) ∙ proper .receives) (ap (λ (k : ℕ). eqb k 0) (holds .dcd))) set

@@ -9,7 +9,7 @@ use Rattle.ins2651_rules.specs.Ranges.{settled}
 use Rattle.ins2651_rules.specs.Ticks.{sent, transmitTick, transmit}
 use Rattle.ins2651_rules.specs.Runs.{Transmit, Receive, next}
 use Rattle.ins2651_ends.specs.OnALine.{levelOf, ins2651}
-use Rattle.delivery.specs.Joined.{Side, A, B, other, deviceAfter, Joins}
+use Rattle.delivery.specs.Joined.{Side, A, B, other, Becomes, Joins}
 use Rattle.joined_rules.specs.declared.Pair.{Pair}
 use Rattle.joined_rules.specs.Joining.{tick}
 use Rattle.joined_rules.specs.Bench.{deviceAt, Step, Tick, At, moved, happens, line}
@@ -28,7 +28,7 @@ unfolding tick
 pair-ticked A p = joined-tick (p .a) (p .b)
 pair-ticked B p = joined-tick (p .b) (p .a)
 
-pair-follows : (s : Side) (p : Pair) (x : Step) → deviceAt s (moved p x) ≡ deviceAfter line s p (happens x)
+pair-follows : (s : Side) (p : Pair) (x : Step) → Becomes line s p (happens x) (deviceAt s (moved p x))
 pair-follows s p Tick = pair-ticked s p
 pair-follows A p (At A c) = refl
 pair-follows A p (At B c) = refl

@@ -28,7 +28,7 @@ use Rattle.joined_rules.specs.Bench.{deviceAt, Step, Tick, At, allMoved,
 
 -- == freshly set up ==
 
--- what was written last to mode 1, to mode 2 and to the command of one side
+-- what stands in mode 1, mode 2 and the command of one side when its set-up ends; the command as it was written, with bit 4
 pub record Settings : Type 0 where
   pub mode1 : ℕ
   pub mode2 : ℕ
@@ -167,9 +167,18 @@ pub record Seen (a b : Settings) (w : Bench) : Type 0 where
 
 -- == one way alone ==
 
--- after a set-up the way from this side is open: the device there may start a frame and has no break on, the other one listens, and the two
--- formats are alike. What is then allowed is `allAllowed` of `wayFrom`, what is promised `Promised`; of the other way nothing is asked
+-- asynchronous, and in normal operation: factor bits that are not 00, and bits 6 and 7 of the command off
+pub record Normal (d : Device) : Type 0 where
+  pub asynchronous : eqb (d .registers .mode1 % 4) 0 ≡ false
+  pub no-echo : has 64 (d .registers .command) ≡ false
+  pub no-loopback : has 128 (d .registers .command) ≡ false
+
+-- the way from this side is open after a set-up: both devices are normal, the one there may start a frame and has no break on, the other one
+-- listens, and the two formats are alike. What is then allowed is `allAllowed` of `delivery` on `wayFrom s`, and what is promised is `Promised`:
+-- from then on nothing is asked of the other way
 pub record Open (s : Side) (p : Pair) : Type 0 where
+  pub from-normal : Normal (deviceAt s p)
+  pub to-normal : Normal (deviceAt (other s) p)
   pub starts : mayStart (deviceAt s p) ≡ true
   pub no-break : breakOn (deviceAt s p) ≡ false
   pub listens : listening (deviceAt (other s) p) ≡ true

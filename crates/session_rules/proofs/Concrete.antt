@@ -1,6 +1,7 @@
 -- Sessions computed from the definitions: document 01's own, each refusal, and the edges of a line's shape.
 -- Assumes nothing.
-use Prim.Native.Nat.{ℕ}
+use Prim.Native.Nat.{ℕ, _≤_}
+use native.Mathlib.Omega.{arith}
 use mathlib.Core.Path.{_≡_, refl}
 use mathlib.Core.List.{List, [], _∷_, _++_}
 use Rattle.line_rules.specs.Sending.{part, oddOnes, parityBit}
@@ -19,8 +20,11 @@ use Rattle.ins2651_rules.specs.Pinning.{pinned, setPins}
 use Rattle.ins2651_rules.specs.Ticks.{transmitTick, transmit, receiveTick, receive}
 use Rattle.ins2651_rules.specs.Runs as chip
 use Rattle.joined_rules.specs.Joining.{tick}
+use Rattle.delivery.specs.OneWay.{noLog}
+use Rattle.delivery.specs.OneWay as one-way
+use Rattle.delivery.specs.Promise.{Finished}
 use Rattle.delivery.specs.Joined.{Side, A, B}
-use Rattle.joined_rules.specs.Bench.{Step, Tick, At}
+use Rattle.joined_rules.specs.Bench.{Step, Tick, At, wayFrom}
 use Rattle.joined_rules.specs.Demand3.{settingsAt, sends}
 use Rattle.joined_rules.proofs.Concrete as bench
 use Rattle.fields.specs.Parted.{fieldOf, fieldsOf}
@@ -29,8 +33,8 @@ use Rattle.records.specs.Records.{two, three, four, five}
 use Rattle.session_rules.specs.Calls.{obey, lineReply, saidText}
 use Rattle.rows.specs.Text.{decimal, refusalText, valueText, countsText, rowText}
 use Rattle.session_rules.specs.Whole.{linesOf, linesTaken, answerText}
-use Rattle.session_rules.specs.Delivered.{Parted, Meets, MeetsFrom, printed, Delivers}
-use Rattle.session_rules.proofs.Delivered.{text-delivers}
+use Rattle.session_rules.specs.Delivered.{Parted, Meets, formatFrom, MeetsFrom, start, printed, Delivers}
+use Rattle.session_rules.proofs.Delivered.{one-way-text-delivers, text-delivers}
 
 -- document 01's session, and its whole output
 abbrev input : List ℕ
@@ -60,7 +64,7 @@ worked-meets =
     }
 
 -- .. so what it prints for the read of address 0 is what was written
-pub worked-delivers : Delivers A (sends bench.worked) (linesTaken input)
+pub worked-delivers : Delivers A (sends bench.worked) (worked-meets .parted)
 worked-delivers = text-delivers bench.worked bench.worked bench.worked-proper bench.worked-proper bench.worked-agrees (linesTaken input) worked-meets A
 
 pub worked-prints : printed A (linesTaken input) ≡ bytes "R\tB\t0\t255\n" ∷ []
@@ -71,16 +75,16 @@ worked-prints = refl
 
 -- mixed in time, with a reset, a refused read, a line without shape and a command that is replaced; the first of three ticks ends the set-up; two
 -- characters one way and one the other, whose second read finds nothing unread
-abbrev mixed-input : List ℕ
+abbrev pub mixed-input : List ℕ
 mixed-input =
     bytes "Z\tA\nP\tB\t0\t0\t0\nW\tA\t2\t125\nW\tB\t3\t1\nR\tA\t9\nW\tA\t2\t0\nhello\nP\tA\t0\t0\t0\n"
     ++ bytes "W\tB\t2\t253\nW\tA\t3\t5\nW\tB\t2\t15\nW\tB\t3\t21\nR\tA\t0\nL\t3\n"
     ++ bytes "W\tA\t0\t193\nW\tB\t0\t90\nL\t1\nW\tA\t0\t194\nL\t11\nR\tB\t0\nR\tA\t0\nR\tA\t0\nL\t11\nR\tB\t0\n"
 
-abbrev mixed-lines : List (List ℕ)
+abbrev pub mixed-lines : List (List ℕ)
 mixed-lines = linesTaken mixed-input
 
-abbrev mixed-parted : Parted mixed-lines
+abbrev pub mixed-parted : Parted mixed-lines
 unfolding answerText linesTaken linesOf two three four five obey lineReply decimal refusalText valueText countsText rowText saidText fieldOf fieldsOf part oddOnes parityBit sample link-transmitting.transmit link-hearing.receive line-range.inRange senderInRange receiverInRange formatOf statusByte inRange settled writeRefusal readRegister read writeRegister write pinned setPins transmitTick transmit receiveTick receive tick
 mixed-parted =
     record {
@@ -92,6 +96,9 @@ mixed-parted =
       quiet = record { calls = refl; a-quiet = refl; b-quiet = refl };
     }
 
+twenty-four : 24 ≤ 25
+twenty-four = omega arith
+
 pub mixed-meets : Meets bench.one-stop bench.two-stops mixed-lines
 unfolding answerText linesTaken linesOf two three four five obey lineReply decimal refusalText valueText countsText rowText saidText fieldOf fieldsOf part oddOnes parityBit sample link-transmitting.transmit link-hearing.receive line-range.inRange senderInRange receiverInRange formatOf statusByte inRange settled writeRefusal readRegister read writeRegister write pinned setPins transmitTick transmit receiveTick receive tick
 mixed-meets =
@@ -102,8 +109,14 @@ mixed-meets =
       allowed = refl;
     }
 
-pub mixed-delivers : (s : Side) → Delivers s (sends (settingsAt bench.one-stop bench.two-stops s)) mixed-lines
+pub mixed-delivers : (s : Side) → Delivers s (sends (settingsAt bench.one-stop bench.two-stops s)) (mixed-meets .parted)
 mixed-delivers = text-delivers bench.one-stop bench.two-stops bench.one-stop-proper bench.two-stops-proper bench.stops-agree mixed-lines mixed-meets
+
+-- L+D joined ticks pass behind the last write each way, and all is read: so all that was written is printed
+pub mixed-finished : (s : Side) → Finished (wayFrom s) (sends (settingsAt bench.one-stop bench.two-stops s)) (one-way.runs (wayFrom s) (noLog (start (mixed-meets .parted))) (mixed-meets .parted .after))
+unfolding mixed-parted mixed-meets answerText linesTaken linesOf two three four five obey lineReply decimal refusalText valueText countsText rowText saidText fieldOf fieldsOf part oddOnes parityBit sample link-transmitting.transmit link-hearing.receive line-range.inRange senderInRange receiverInRange formatOf statusByte inRange settled writeRefusal readRegister read writeRegister write pinned setPins transmitTick transmit receiveTick receive tick
+mixed-finished A = record { passed = twenty-four; read = refl }
+mixed-finished B = record { passed = twenty-four; read = refl }
 
 pub mixed-answer : answerText mixed-input
     ≡ bytes "E\t5\t1\nE\t7\t6\nR\tA\t0\t0\nR\tB\t0\t193\nR\tA\t0\t90\nR\tA\t0\t90\nR\tB\t0\t194\nN\t24\t2\n"
@@ -117,12 +130,12 @@ mixed-prints = (refl, refl)
 -- == one way, whatever happens on the other ==
 
 -- the same units; a's first character is not read in time, and its status then shows an overrun. b reads in time, and gets what was written
-abbrev one-sided-input : List ℕ
+abbrev pub one-sided-input : List ℕ
 one-sided-input =
     bytes "W\tA\t2\t125\nW\tA\t2\t0\nW\tA\t3\t5\nP\tA\t0\t0\t0\nW\tB\t2\t253\nW\tB\t2\t15\nW\tB\t3\t21\nP\tB\t0\t0\t0\nL\t1\n"
     ++ bytes "W\tA\t0\t193\nW\tB\t0\t90\nL\t1\nW\tB\t0\t91\nL\t20\nR\tB\t0\nL\t3\nR\tA\t1\nR\tA\t0\nW\tA\t0\t194\nL\t11\nR\tB\t0\n"
 
-abbrev one-sided-lines : List (List ℕ)
+abbrev pub one-sided-lines : List (List ℕ)
 one-sided-lines = linesTaken one-sided-input
 
 pub one-sided-answer : answerText one-sided-input
@@ -142,9 +155,12 @@ one-sided-meets =
         steps = refl;
         quiet = record { calls = refl; a-quiet = refl; b-quiet = refl };
       };
-      opened = record { starts = refl; no-break = refl; listens = refl; alike = bench.stops-agree .there };
+      opened = record { from-normal = record { asynchronous = refl; no-echo = refl; no-loopback = refl }; to-normal = record { asynchronous = refl; no-echo = refl; no-loopback = refl }; starts = refl; no-break = refl; listens = refl; alike = bench.stops-agree .there };
       allowed = refl;
     }
+
+pub one-sided-delivers : Delivers A (formatFrom A (one-sided-meets .parted)) (one-sided-meets .parted)
+one-sided-delivers = one-way-text-delivers A one-sided-lines one-sided-meets
 
 pub one-sided-prints : printed A one-sided-lines ≡ bytes "R\tB\t0\t193\n" ∷ bytes "R\tB\t0\t194\n" ∷ []
 unfolding answerText linesTaken linesOf two three four five obey lineReply decimal refusalText valueText countsText rowText saidText fieldOf fieldsOf part oddOnes parityBit sample link-transmitting.transmit link-hearing.receive line-range.inRange senderInRange receiverInRange formatOf statusByte inRange settled writeRefusal readRegister read writeRegister write pinned setPins transmitTick transmit receiveTick receive tick

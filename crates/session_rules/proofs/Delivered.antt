@@ -5,7 +5,7 @@ use mathlib.Core.Path.{_≡_, refl, sym, ap, ap₂, subst, _∙_}
 use mathlib.Core.Bool.{Bool, true, false, cond, _&&_, false≢true}
 use mathlib.Core.List.{List, [], _∷_, _++_, map, map-append}
 use lib.Dec.{eqb, leb}
-use lib.ListN.{replicate, length}
+use lib.ListN.{replicate}
 use borrow.Author.Tests.{eqb-true}
 use Rattle.line_rules.specs.declared.Format.{Format}
 use Rattle.line_rules.proofs.Choice.{either}
@@ -13,7 +13,8 @@ use Rattle.line_rules.proofs.Table.{both}
 use Rattle.fields.specs.Parted.{fieldsOf}
 use Rattle.ins2651_rules.specs.Runs as chip
 use Rattle.ins2651_rules.specs.RegisterReads.{readRegister, read}
-use Rattle.ins2651_ends.specs.OnALine.{unread, character, writes, reads}
+use Rattle.ins2651_rules.specs.History.{reads, writesHolding}
+use Rattle.ins2651_ends.specs.OnALine.{unread, character}
 use Rattle.delivery.specs.OneWay.{Deed, Ticks, Writes, Reads, Passes, getting, puts, gets}
 use Rattle.delivery.specs.Promise.{InOrder}
 use Rattle.delivery.specs.Joined.{Side, A, B, other}
@@ -27,13 +28,13 @@ use Rattle.records.specs.declared.Record.the-variants as record-of
 use Rattle.records.specs.Records.{aUnit, recordOf}
 use Rattle.records.specs.Printed.{proper}
 use Rattle.records.proofs.Parser.{reads-printed}
-use Rattle.rows.specs.Text.{rowText, valueText, countsText}
+use Rattle.rows.specs.Text.{rowText, valueText}
 use Rattle.session_rules.specs.declared.Said.{Said}
 use Rattle.session_rules.specs.Calls.{obey, lineReply, saidText}
 use Rattle.session_rules.specs.Rows.{overlong, shapeless}
 use Rattle.session_rules.specs.Steps.{side, recordSteps, lineSteps, allSteps}
-use Rattle.session_rules.specs.Whole.{linesTaken, answers, refusals, texts, answerText}
-use Rattle.session_rules.specs.Delivered.{Meets, formatFrom, MeetsFrom, lineTexts, unitOf, isRead, fetches, fetching, marked, Delivers}
+use Rattle.session_rules.specs.Whole.{answers, lineTexts}
+use Rattle.session_rules.specs.Delivered.{Meets, formatFrom, MeetsFrom, unitOf, isRead, fetches, fetching, marked, printed, Shows, Delivers}
 use Rattle.session_rules.proofs.Lines.{line-moves}
 
 -- == one line ==
@@ -103,11 +104,11 @@ at-read s p unit address h r = by-unit s (eqb unit 65) refl r
     by-unit B false e q = absurd (false≢true (rw e at q))
 
 -- no other call is a read
-no-read : (s t : Side) (p : Pair) (c : chip.Call) → reads c ≡ false → isRead (deedFrom s p (At t c)) ≡ false
-no-read A A p c h = either (λ (k : Deed). isRead k ≡ false) (writes c) refl refl
+no-read : (s t : Side) (p : Pair) (c : chip.Call) → reads 0 c ≡ false → isRead (deedFrom s p (At t c)) ≡ false
+no-read A A p c h = either (λ (k : Deed). isRead k ≡ false) (writesHolding c) refl refl
 no-read A B p c h = rw h
 no-read B A p c h = rw h
-no-read B B p c h = either (λ (k : Deed). isRead k ≡ false) (writes c) refl refl
+no-read B B p c h = either (λ (k : Deed). isRead k ≡ false) (writesHolding c) refl refl
 
 module _ (s : Side) (n : ℕ) (p : Pair) (rest : List (List ℕ)) where
   abbrev unit : ℕ
@@ -118,7 +119,7 @@ module _ (s : Side) (n : ℕ) (p : Pair) (rest : List (List ℕ)) where
   Prints xs said = cond (fetches s p xs) (saidText n said ∷ rest) rest ≡ map (valueText unit 0) (gets (wayFrom s) p xs) ++ rest
 
   -- a call that is no read
-  silent : (t : Side) (c : chip.Call) (said : Said) → reads c ≡ false → Prints (At t c ∷ []) said
+  silent : (t : Side) (c : chip.Call) (said : Said) → reads 0 c ≡ false → Prints (At t c ∷ []) said
   silent t c said h =
       let z = no-read s t p c h in
       rw z (ap (λ (vs : List ℕ). map (valueText unit 0) vs ++ rest) (sym (gets-none (unread (deviceAt (other s) p)) (character (deviceAt (other s) p)) (deedFrom s p (At t c)) z)))
@@ -164,14 +165,14 @@ marked-first true bs x xs = refl
 marked-first false bs x xs = refl
 
 prints-gets : (s : Side) (n : ℕ) (p : Pair) (ls : List (List ℕ))
-    → marked (fetching s p ls) (lineTexts n p ls) ≡ map (valueText (unitOf (other s)) 0) (gets (wayFrom s) p (allSteps ls))
+    → marked (fetching s p ls) (lineTexts n (answers p ls)) ≡ map (valueText (unitOf (other s)) 0) (gets (wayFrom s) p (allSteps ls))
 prints-gets s n p [] = refl
 prints-gets s n p (l ∷ ls) =
     let after : Pair = lineReply p l .pair in
-    let rest : List (List ℕ) = marked (fetching s after ls) (lineTexts (suc n) after ls) in
+    let rest : List (List ℕ) = marked (fetching s after ls) (lineTexts (suc n) (answers after ls)) in
     let here : List ℕ = gets (wayFrom s) p (lineSteps l) in
     let later : List ℕ = gets (wayFrom s) (allMoved p (lineSteps l)) (allSteps ls) in
-    marked-first (fetches s p (lineSteps l)) (fetching s after ls) (saidText n (lineReply p l .said)) (lineTexts (suc n) after ls)
+    marked-first (fetches s p (lineSteps l)) (fetching s after ls) (saidText n (lineReply p l .said)) (lineTexts (suc n) (answers after ls))
     ∙ line-prints s n p rest l
     ∙ ap (λ (ts : List (List ℕ)). map (valueText (unitOf (other s)) 0) here ++ ts)
     (prints-gets s (suc n) after ls ∙ ap (λ (q : Pair). map (valueText (unitOf (other s)) 0) (gets (wayFrom s) q (allSteps ls))) (sym (line-moves p l)))
@@ -179,41 +180,24 @@ prints-gets s n p (l ∷ ls) =
     ∙ ap (map (valueText (unitOf (other s)) 0)) (sym (gets-append s p (lineSteps l) (allSteps ls)))
 
 -- what is read in order is shown in order
-shows : (s : Side) (f : Format) (lines : List (List ℕ)) {xs : List Step} → allSteps lines ≡ xs
-    → InOrder f (gets (wayFrom s) justReset xs) (puts (wayFrom s) justReset xs) → Delivers s f lines
-shows s f lines e h =
+shows : (s : Side) (f : Format) {finished : Type 0} (lines : List (List ℕ)) {xs : List Step} → allSteps lines ≡ xs
+    → InOrder f finished (gets (wayFrom s) justReset xs) (puts (wayFrom s) justReset xs)
+    → Shows f finished (unitOf (other s)) (printed s lines) (puts (wayFrom s) justReset (allSteps lines))
+shows s f {finished} lines e h =
     record {
       values = gets (wayFrom s) justReset (allSteps lines);
       shown = prints-gets s 1 justReset lines;
-      in-order = subst (λ (ys : List Step). InOrder f (gets (wayFrom s) justReset ys) (puts (wayFrom s) justReset ys)) (sym e) h;
+      in-order = subst (λ (ys : List Step). InOrder f finished (gets (wayFrom s) justReset ys) (puts (wayFrom s) justReset ys)) (sym e) h;
     }
 
 -- one way, whatever happens on the other
-pub one-way-text-delivers : (s : Side) (lines : List (List ℕ)) (m : MeetsFrom s lines) → Delivers s (formatFrom s (m .parted)) lines
+pub one-way-text-delivers : (s : Side) (lines : List (List ℕ)) (m : MeetsFrom s lines) → Delivers s (formatFrom s (m .parted)) (m .parted)
 one-way-text-delivers s lines m =
     let l = m .parted in
     shows s (formatFrom s l) lines (l .steps) (one-way-in-order (l .set-up) (l .quiet) s (m .opened) (l .after) (m .allowed))
 
 -- both at once
-pub text-delivers : (a b : Settings) → Proper a → Proper b → Agree a b → (lines : List (List ℕ)) → Meets a b lines → (s : Side) → Delivers s (sends (settingsAt a b s)) lines
+pub text-delivers : (a b : Settings) → Proper a → Proper b → Agree a b → (lines : List (List ℕ)) (m : Meets a b lines) (s : Side) → Delivers s (sends (settingsAt a b s)) (m .parted)
 text-delivers a b pa pb agree lines m s =
     let l = m .parted in
     shows s (sends (settingsAt a b s)) lines (l .steps) (run-in-order (l .set-up) (l .quiet) a b pa pb agree (m .a-holds) (m .b-holds) (l .after) (m .allowed) s)
-
--- == the output ==
-
-abbrev pub joined : List (List ℕ) → List ℕ
-joined [] = []
-joined (t ∷ ts) = t ++ joined ts
-
-texts-are : (n : ℕ) (p : Pair) (ls : List (List ℕ)) → texts n (answers p ls) ≡ joined (lineTexts n p ls)
-texts-are n p [] = refl
-texts-are n p (l ∷ ls) = ap (λ (t : List ℕ). saidText n (lineReply p l .said) ++ t) (texts-are (suc n) (lineReply p l .pair) ls)
-
--- the texts of the lines, one after another, are the session's output up to the counts
-pub output-is : (input : List ℕ) → let lines = linesTaken input in
-    answerText input ≡ joined (lineTexts 1 justReset lines) ++ countsText (length lines) (refusals (answers justReset lines))
-unfolding answerText
-output-is input =
-    let lines : List (List ℕ) = linesTaken input in
-    ap (λ (t : List ℕ). t ++ countsText (length lines) (refusals (answers justReset lines))) (texts-are 1 justReset lines)

@@ -1,7 +1,7 @@
 -- Demand 3 from a session's text: lines that set both units up, a joined tick, then lines of allowed steps. What the session prints for the
 -- reads of address 0 made while bit 1 was 1 are the values written, cut, in order.
 -- Assumes nothing.
-use Prim.Native.Nat.{ℕ, suc}
+use Prim.Native.Nat.{ℕ}
 use Prim.Native.Char.{code}
 use mathlib.Core.Path.{_≡_}
 use mathlib.Core.Bool.{Bool, true, false, _&&_}
@@ -12,14 +12,15 @@ use Rattle.ins2651_rules.specs.Modes.{sendFormat}
 use Rattle.ins2651_ends.specs.OnALine.{unread}
 use Rattle.delivery.specs.OneWay.{Deed, Ticks, Writes, Reads, Passes, noLog, puts}
 use Rattle.delivery.specs.OneWay as one-way
-use Rattle.delivery.specs.Promise.{InOrder}
+use Rattle.delivery.specs.Promise.{InOrder, Finished}
 use Rattle.delivery.specs.Joined.{Side, A, B, other}
 use Rattle.joined_rules.specs.declared.Pair.{Pair}
 use Rattle.joined_rules.specs.Joining.{tick}
 use Rattle.joined_rules.specs.Bench.{deviceAt, Step, Tick, allMoved, justReset, deedFrom, wayFrom}
 use Rattle.joined_rules.specs.Demand3.{Settings, sends, Quiet, Holds, fresh, allAllowed, Open}
 use Rattle.rows.specs.Text.{valueText}
-use Rattle.session_rules.specs.Calls.{lineReply, saidText}
+use Rattle.session_rules.specs.Calls.{lineReply}
+use Rattle.session_rules.specs.Whole.{answers, lineTexts}
 use Rattle.session_rules.specs.Steps.{lineSteps, allSteps}
 
 -- == the premises ==
@@ -31,6 +32,10 @@ pub record Parted (lines : List (List ℕ)) : Type 0 where
   pub after : List Step
   pub steps : allSteps lines ≡ set-up ++ Tick ∷ after
   pub quiet : Quiet set-up
+
+-- the two units after the one joined tick
+abbrev pub start : {lines : List (List ℕ)} → Parted lines → Pair
+start l = tick (allMoved justReset (l .set-up)) .pair
 
 -- both ways: the set-up leaves each unit with its settings, and the others are steps that demand 3 allows
 pub record Meets (a b : Settings) (lines : List (List ℕ)) : Type 0 where
@@ -47,15 +52,9 @@ formatFrom s l = sendFormat (deviceAt s (allMoved justReset (l .set-up)) .regist
 pub record MeetsFrom (s : Side) (lines : List (List ℕ)) : Type 0 where
   pub parted : Parted lines
   pub opened : Open s (allMoved justReset (parted .set-up))
-  pub allowed : one-way.allAllowed (wayFrom s) (frameLength (formatFrom s parted)) (noLog (tick (allMoved justReset (parted .set-up)) .pair)) (parted .after) ≡ true
+  pub allowed : one-way.allAllowed (wayFrom s) (frameLength (formatFrom s parted)) (noLog (start parted)) (parted .after) ≡ true
 
 -- == what is printed ==
-
--- the text of each line, in turn; the first has the number n. One after another, with the counts behind them, they are the session's output
--- (proofs/Delivered.antt, `output-is`)
-abbrev pub lineTexts : ℕ → Pair → List (List ℕ) → List (List ℕ)
-lineTexts n p [] = []
-lineTexts n p (l ∷ ls) = saidText n (lineReply p l .said) ∷ lineTexts (suc n) (lineReply p l .pair) ls
 
 abbrev pub unitOf : Side → ℕ
 unitOf A = code "A"
@@ -84,18 +83,21 @@ marked (b ∷ bs) [] = []
 marked (true ∷ bs) (x ∷ xs) = x ∷ marked bs xs
 marked (false ∷ bs) (x ∷ xs) = marked bs xs
 
--- the texts of such lines
+-- the texts of such lines; those of all the lines, one after another, with the counts behind them, are the output (`whole`)
 abbrev pub printed : Side → List (List ℕ) → List (List ℕ)
-printed s lines = marked (fetching s justReset lines) (lineTexts 1 justReset lines)
+printed s lines = marked (fetching s justReset lines) (lineTexts 1 (answers justReset lines))
 
 -- == the promise ==
 
--- `R`, unit, 0 and a value each; the values are a beginning of those that were written, cut, in order
-pub record Shows (f : Format) (unit : ℕ) (texts : List (List ℕ)) (written : List ℕ) : Type 0 where
+-- `R`, unit, 0 and a value each; the values are a beginning of those that were written, cut, in order, and all of them where the run is finished
+pub record Shows (f : Format) (finished : Type 0) (unit : ℕ) (texts : List (List ℕ)) (written : List ℕ) : Type 0 where
   pub values : List ℕ
   pub shown : texts ≡ map (valueText unit 0) values
-  pub in-order : InOrder f values written
+  pub in-order : InOrder f finished values written
 
--- from the side s, which sends in the format f: the texts are of the other unit, and the values those that the lines write at s
-abbrev pub Delivers : Side → Format → List (List ℕ) → Type 0
-Delivers s f lines = Shows f (unitOf (other s)) (printed s lines) (puts (wayFrom s) justReset (allSteps lines))
+-- from the side s, which sends in the format f: the texts are of the other unit, and the values those that the lines write at s. The run is finished
+-- where L+D joined ticks have passed since the last of these, and bit 1 of the other unit is 0
+abbrev pub Delivers : {lines : List (List ℕ)} → Side → Format → Parted lines → Type 0
+Delivers {lines} s f l =
+    Shows f (Finished (wayFrom s) f (one-way.runs (wayFrom s) (noLog (start l)) (l .after))) (unitOf (other s)) (printed s lines)
+    (puts (wayFrom s) justReset (allSteps lines))

@@ -48,10 +48,18 @@ refusals (s ∷ ss) = cond (ltb 0 (number s)) (suc (refusals ss)) (refusals ss)
 
 -- == text ==
 
--- what is written of lines, the first of them with the number n
+-- what is written of each line, the first of them with the number n ..
+abbrev pub lineTexts : ℕ → List Said → List (List ℕ)
+lineTexts n [] = []
+lineTexts n (s ∷ ss) = saidText n s ∷ lineTexts (suc n) ss
+
+-- .. one after another
+abbrev pub joinTexts : List (List ℕ) → List ℕ
+joinTexts [] = []
+joinTexts (t ∷ ts) = t ++ joinTexts ts
+
 abbrev pub texts : ℕ → List Said → List ℕ
-texts n [] = []
-texts n (s ∷ ss) = saidText n s ++ texts (suc n) ss
+texts n ss = joinTexts (lineTexts n ss)
 
 -- line numbers are from 1; last come the lines taken and the refusals
 abbrev pub whole : List (List ℕ) → List Said → List ℕ

@@ -107,6 +107,10 @@ fn function_head(line: &str) -> Option<&str> {
     head.strip_prefix("fn ")?.split('(').next()
 }
 
+pub fn has_functions(source: &str) -> bool {
+    source.lines().any(|line| function_head(line).is_some())
+}
+
 /// The first and the last line of a function of a source file, or None where it has none of this name.
 pub fn function_lines(source: &str, name: &str) -> Option<(usize, usize)> {
     let first = source

@@ -2,16 +2,17 @@
 
 use crate::edit::{programs, Program};
 use crate::log::{
-    declaration_refused, declared, function, function_refused, functions_with, refusals, Refusal,
-    Why,
+    declaration_refused, declared, function, function_refused, functions_with, has_functions,
+    refusals, Refusal, Why,
 };
 use std::collections::BTreeMap;
 use std::fs;
 use std::path::{Path, PathBuf};
 
-/// An edit: its crate, its label and its wrong programs.
+/// An edit: its crate, whether that has code, its label and its wrong programs.
 pub struct Edit {
     pub crate_name: String,
+    pub has_code: bool,
     pub label: String,
     pub programs: Vec<Program>,
 }
@@ -31,11 +32,19 @@ fn stem(path: &Path) -> String {
         .into_owned()
 }
 
+/// Whether a crate has a function: one with definitions, laws and structs alone has none.
+fn has_code(folder: &Path) -> bool {
+    sorted(&folder.join("src"))
+        .iter()
+        .any(|file| has_functions(&fs::read_to_string(file).unwrap_or_default()))
+}
+
 /// Every edit below crates/, or what is wrong with their lines.
 pub fn edits(root: &Path) -> Result<Vec<Edit>, Vec<String>> {
     let (mut found, mut faults) = (Vec::new(), Vec::new());
     for folder in sorted(&root.join("crates")) {
         let mut named: BTreeMap<String, String> = BTreeMap::new();
+        let has_code = has_code(&folder);
         for file in sorted(&folder.join("must-fail")) {
             let (crate_name, label) = (stem(&folder), stem(&file));
             let text = fs::read_to_string(&file).unwrap_or_default();
@@ -51,6 +60,7 @@ pub fn edits(root: &Path) -> Result<Vec<Edit>, Vec<String>> {
                     }
                     found.push(Edit {
                         crate_name,
+                        has_code,
                         label,
                         programs,
                     });
@@ -174,7 +184,7 @@ pub fn table(edits: &[Edit]) -> String {
                 at = format!("{at}; {} with it", code(&program.falls));
             }
             // where the crate has no code, a wrong definition stands by itself
-            let kind = if program.is_alike() && !edit.crate_name.ends_with("_rules") {
+            let kind = if program.is_alike() && edit.has_code {
                 "both: "
             } else {
                 ""

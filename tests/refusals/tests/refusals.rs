@@ -29,6 +29,7 @@ fn room(name: &str, log: &str) -> PathBuf {
 
 fn edit(text: &str) -> Edit {
     Edit {
+        has_code: true,
         crate_name: "line".into(),
         label: "wrong".into(),
         programs: programs("wrong", text).unwrap(),
@@ -233,4 +234,10 @@ fn an_edit_says_what_is_wrong_and_where() {
 fn the_table_has_a_row_for_each_wrong_program() {
     let all = [edit("# wrong: so | so\n# refused at: f, g\n# falls with it: h\nfile: specs/Rule.antt\nold: a\nnew: b\n")];
     assert!(table(&all).ends_with("| `line/wrong` | both: so \\| so | `f`, `g`; `h` with it |\n"));
+    // where the crate has no code, a wrong definition stands by itself
+    let bare = all.map(|edit| Edit {
+        has_code: false,
+        ..edit
+    });
+    assert!(table(&bare).ends_with("| `line/wrong` | so \\| so | `f`, `g`; `h` with it |\n"));
 }
