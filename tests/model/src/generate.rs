@@ -1,15 +1,18 @@
 //! The random sessions, each with a fixed seed: its kind and its index. The runs
 //! of calls are in `calls`.
 
-pub mod alike;
+mod alike;
 pub mod calls;
 mod hostile;
 mod malformed;
+mod one_way;
 mod realistic;
+mod set_up;
+mod ways;
 
 use crate::chip::joined_ticks;
 use crate::draw::Draws;
-use crate::session::{Bench, Pair, Record, Unit};
+use crate::session::{other, Bench, Pair, Record, Unit, UNITS};
 
 /// Sessions of each kind.
 pub const SESSIONS: u32 = 600;
@@ -27,9 +30,17 @@ pub enum Kind {
     Malformed,
     /// The premises of demand 3.
     Alike,
+    /// The premises of one way of it, with the other way misused.
+    OneWay,
 }
 
-pub const KINDS: [Kind; 4] = [Kind::Realistic, Kind::Hostile, Kind::Malformed, Kind::Alike];
+pub const KINDS: [Kind; 5] = [
+    Kind::Realistic,
+    Kind::Hostile,
+    Kind::Malformed,
+    Kind::Alike,
+    Kind::OneWay,
+];
 
 /// The whole input of a session.
 pub fn session(kind: Kind, index: u32) -> Vec<u8> {
@@ -39,6 +50,16 @@ pub fn session(kind: Kind, index: u32) -> Vec<u8> {
         Kind::Hostile => hostile::session(&mut draws, index),
         Kind::Malformed => malformed::session(&mut draws),
         Kind::Alike => alike::session(&mut draws, index),
+        Kind::OneWay => one_way::session(&mut draws, index),
+    }
+}
+
+/// The sides from which every character written in a session must arrive.
+pub fn senders(kind: Kind, index: u32) -> Vec<Unit> {
+    match kind {
+        Kind::Realistic | Kind::Hostile | Kind::Malformed => Vec::new(),
+        Kind::Alike => UNITS.to_vec(),
+        Kind::OneWay => vec![one_way::sender(index)],
     }
 }
 
@@ -50,15 +71,6 @@ pub fn accepted_mode(index: u32) -> u8 {
 
 fn any_mode(draws: &mut Draws) -> u8 {
     accepted_mode(draws.below(ACCEPTED_MODES))
-}
-
-const UNITS: [Unit; 2] = [Unit::A, Unit::B];
-
-fn other(unit: Unit) -> Unit {
-    match unit {
-        Unit::A => Unit::B,
-        Unit::B => Unit::A,
-    }
 }
 
 /// A session that is being written, and the chips that it leaves, so that what
@@ -86,6 +98,12 @@ impl Script {
         self.text += &record.to_string();
         // What a record answers is the comparison's to judge.
         let _ = self.pair.act(record);
+    }
+
+    /// A line that is refused for its text alone.
+    fn line(&mut self, text: &str) {
+        self.flush();
+        self.text += &format!("{text}\n");
     }
 
     fn write(&mut self, unit: Unit, address: u8, value: u8) {

@@ -6,11 +6,13 @@
 //! and keeps one mode. The module `chip` has the whole chip, `session` the
 //! session program and `calls` the text of the C driver. The other modules are
 //! the random tests from outside: `generate` draws sessions and runs of calls,
-//! `program` runs the proved program, `reach` counts what was reached and
-//! `shorten` cuts a difference down.
+//! `program` runs the proved program, `delivery` holds an answer to demand 3
+//! without the chip, `reach` counts what was reached and `shorten` cuts a
+//! difference down.
 
 pub mod calls;
 pub mod chip;
+pub mod delivery;
 pub mod draw;
 pub mod generate;
 pub mod program;

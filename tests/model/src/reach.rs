@@ -1,9 +1,11 @@
-//! What the random runs reached, counted by name on the model's chips. A run in
-//! which one of its names stays at 0 has not tested what it is for.
+//! What the random runs reached, counted by name on the model's chips, and for
+//! demand 3 by the sessions' text and answers (`delivery`). A run in which one of
+//! its names stays at 0 has not tested what it is for.
 
 use crate::calls::{Call, Garbage, Lent, Line};
 use crate::chip::{decode, Chip, View, RECEIVE, RESET_ERROR};
 use crate::chip::{INTERNAL_RECEIVE_CLOCK, INTERNAL_TRANSMIT_CLOCK};
+use crate::delivery::reached;
 use crate::generate::{accepted_mode, ACCEPTED_MODES};
 use crate::session::{lines, Bench, Pair, Record, Unit};
 use crate::Format;
@@ -71,7 +73,8 @@ pub struct Reach {
 
 impl Reach {
     pub fn of_sessions() -> Reach {
-        Reach::of(OF_SESSIONS.map(String::from).to_vec())
+        let names = OF_SESSIONS.into_iter().chain(reached::NAMES);
+        Reach::of(names.map(String::from).collect())
     }
 
     pub fn of_calls() -> Reach {
@@ -267,6 +270,11 @@ impl Reach {
                 self.count(&format!("refusal {number}"));
             }
         }
+    }
+
+    /// What a session of demand 3 reached by its text and answer.
+    pub fn delivered(&mut self, names: &[&str]) {
+        names.iter().for_each(|name| self.count(name));
     }
 
     /// A run of calls, made on the model.

@@ -26,6 +26,15 @@ pub enum Unit {
     B,
 }
 
+pub const UNITS: [Unit; 2] = [Unit::A, Unit::B];
+
+pub fn other(unit: Unit) -> Unit {
+    match unit {
+        Unit::A => Unit::B,
+        Unit::B => Unit::A,
+    }
+}
+
 /// A line of a known shape.
 #[derive(Clone, Copy, Debug)]
 pub enum Record {
@@ -35,6 +44,19 @@ pub enum Record {
     Pins(Unit, [u8; 3]),
     Reset(Unit),
     JoinedTicks(u16),
+}
+
+impl Record {
+    /// The unit that is called; joined ticks are of both.
+    pub fn unit(&self) -> Option<Unit> {
+        match *self {
+            Record::Write(unit, ..)
+            | Record::Read(unit, _)
+            | Record::Pins(unit, _)
+            | Record::Reset(unit) => Some(unit),
+            Record::JoinedTicks(_) => None,
+        }
+    }
 }
 
 /// The line of the record, with its newline.
@@ -91,7 +113,7 @@ pub fn lines(input: &[u8]) -> impl Iterator<Item = &[u8]> {
 }
 
 /// The record that a line is, or its refusal: 7 comes before 6.
-fn parse(line: &[u8]) -> Result<Record, u8> {
+pub fn parse(line: &[u8]) -> Result<Record, u8> {
     if line.len() > LONGEST_LINE {
         return Err(TOO_LONG);
     }

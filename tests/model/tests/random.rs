@@ -4,7 +4,7 @@
 use model::calls::{difference, numbers, shortest, Call, Lent, Line};
 use model::chip::{Chip, View};
 use model::generate::calls::{run, RUNS};
-use model::generate::{alike, session, Kind, KINDS, SESSIONS};
+use model::generate::{session, Kind, KINDS, SESSIONS};
 use model::program::Program;
 use model::reach::Reach;
 use model::session::{answer, answer_on, Bench, Pair, Record, Unit};
@@ -240,41 +240,6 @@ fn flags_that_a_command_with_receive_on_clears_are_found() {
     };
     let shortest = found(Kind::Realistic, |input| answer_to_changed(input, clearing));
     assert!(lines(&shortest) <= 10, "{}", shortest.escape_ascii());
-}
-
-/// A command that leaves receive off drops the character under way ("Receiving").
-fn loses_characters(chip: &mut Chip) {
-    let view = chip.view();
-    if comes_next(&view) {
-        chip.write(3, view.command & !4);
-        chip.write(3, view.command);
-    }
-}
-
-#[test]
-fn every_right_answer_meets_demand_3() {
-    for input in (0..SESSIONS).map(|index| session(Kind::Alike, index)) {
-        assert_eq!(alike::fault(&input, &answer(&input)), None);
-    }
-}
-
-#[test]
-fn what_breaks_demand_3_is_seen_without_a_second_answer() {
-    let input = session(Kind::Alike, 0);
-    let right = String::from_utf8(answer(&input)).unwrap();
-    let broken = |answer: &[u8]| alike::fault(&input, answer).is_some();
-    assert!(broken(&wrong_answer(loses_characters, &input)));
-    let read = right
-        .lines()
-        .find(|line| line.starts_with("R\tB\t0"))
-        .unwrap();
-    assert!(broken(right.replacen(read, "R\tB\t0\t256", 1).as_bytes()));
-    let status = right
-        .lines()
-        .find(|line| line.starts_with("R\tB\t1"))
-        .unwrap();
-    assert!(broken(right.replacen(status, "R\tB\t1\t201", 1).as_bytes()));
-    assert!(broken(("E\t1\t6\n".to_string() + &right).as_bytes()));
 }
 
 #[test]

@@ -1,8 +1,9 @@
 //! Random sessions against the proved session program, whose command stands
-//! behind `--`: byte for byte the same answers as the model's, and demand 3 in
-//! the sessions that keep its premises.
+//! behind `--`: byte for byte the same answers as the model's, and demand 3 on
+//! the ways that keep its premises.
 
-use model::generate::{alike, session, Kind, KINDS, SESSIONS};
+use model::delivery::judge;
+use model::generate::{senders, session, Kind, KINDS, SESSIONS};
 use model::program::Program;
 use model::reach::{Reach, Watched};
 use model::session::{answer, answer_on, Pair};
@@ -38,17 +39,19 @@ fn passes(program: &Program, kind: Kind, index: u32, reach: &mut Reach) -> bool 
     let pair = Pair::just_reset();
     let expected = answer_on(&mut Watched { pair, reach }, &input);
     reach.session(&input, &expected);
-    let delivered = kind != Kind::Alike || alike::fault(&input, &expected).is_none();
-    delivered && program.answer(&input).as_deref() == Ok(&expected)
+    match judge(&input, &expected, &senders(kind, index)) {
+        Ok(names) => reach.delivered(&names),
+        Err(_) => return false,
+    }
+    program.answer(&input).as_deref() == Ok(&expected)
 }
 
 /// Why a session fails.
 fn explain(program: &Program, kind: Kind, index: u32) -> String {
     let input = session(kind, index);
-    let fault = |input: &[u8]| alike::fault(input, &answer(input));
-    let why = match (kind == Kind::Alike).then(|| fault(&input)).flatten() {
-        Some(fault) => format!("the model breaks demand 3: {fault}\n"),
-        None => explain_difference(program, &input),
+    let why = match judge(&input, &answer(&input), &senders(kind, index)) {
+        Err(fault) => format!("the model breaks demand 3: {fault}\n"),
+        Ok(_) => explain_difference(program, &input),
     };
     format!("{kind:?} session of seed {index}: {why}")
 }

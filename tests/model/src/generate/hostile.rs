@@ -9,12 +9,8 @@ pub fn session(draws: &mut Draws, index: u32) -> Vec<u8> {
     // Most sessions begin with chips that can send: the rest is soon refused or
     // does nothing.
     if !draws.one_in(8) {
-        for unit in UNITS {
-            script.write(unit, 2, accepted_mode(index + draws.below(3)));
-            script.write(unit, 2, draws.byte());
-            script.write(unit, 3, command(draws));
-            script.pins(unit, [0, 0, 0]);
-        }
+        let opening = opening(draws, index);
+        opening.into_iter().for_each(|record| script.add(record));
     }
     for _ in 0..draws.between(1, 60) {
         let record = record(draws);
@@ -29,6 +25,19 @@ pub fn session(draws: &mut Draws, index: u32) -> Vec<u8> {
         script.read(Unit::B, address);
     }
     script.into_bytes()
+}
+
+/// Modes near the one at `index`, commands and low pins for both units.
+pub fn opening(draws: &mut Draws, index: u32) -> Vec<Record> {
+    let mut records = Vec::new();
+    for unit in UNITS {
+        let mode1 = accepted_mode(index + draws.below(3));
+        records.push(Record::Write(unit, 2, mode1));
+        records.push(Record::Write(unit, 2, draws.byte()));
+        records.push(Record::Write(unit, 3, command(draws)));
+        records.push(Record::Pins(unit, [0; 3]));
+    }
+    records
 }
 
 /// A record of any kind with any numbers, those that do something more often.
