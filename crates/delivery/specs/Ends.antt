@@ -1,6 +1,6 @@
 -- What the two ends of a way have to show to be joined: each follows its half of `link` while nothing changes what the way rests on.
--- A bench shows `Sends` and `Receives`; where it is two chips on a line, each chip shows `SendingEnd` and `ReceivingEnd`, once, and the bench has the rest
--- from proofs/Joined.antt.
+-- A chip shows `SendingEnd` and `ReceivingEnd`, once for its kind; a bench with two such chips on a line shows `Joins`, and has the rest from
+-- proofs/Joined.antt. Any other bench shows `Sends` and `Receives` itself.
 -- Assumes nothing.
 use mathlib.Core.Path.{_≡_}
 use mathlib.Core.Bool.{Bool, true, false, cond, _||_}
