@@ -141,3 +141,7 @@ module _ {W X : Type 0} {State Call : Side → Type 0} {l : Line W X State Call}
   -- 'idle', as the promise reads it from the log, is what it is in the sending half
   pub line-idles : let end = runs (wayFrom l s) (noLog (l .next w x)) xs in Idles f (sender (l .device s (end .bench))) (end .now) (end .log .written)
   line-idles = way-idles fit from to (l .next w x) begins xs ok
+
+  pub line-right : let end = runs (wayFrom l s) (noLog (l .next w x)) xs in
+      Promised (wayFrom l s) f end × Idles f (sender (l .device s (end .bench))) (end .now) (end .log .written)
+  line-right = (line-delivers, line-idles)

@@ -1,18 +1,23 @@
--- A reset, and then neither a tick nor a character written: the device has sent nothing and heard nothing, whatever it was before.
+-- A reset, and then neither a tick nor a character written: the device has sent nothing and heard nothing, whatever it was before, and is an end of
+-- either kind where its registers and pins make it one.
 -- Assumes nothing.
 use Prim.Native.Nat.{ℕ, zero, suc}
 use native.Mathlib.Omega.{arith}
 use mathlib.Core.Path.{_≡_, refl, sym, ap, subst, _∙_}
 use mathlib.Core.Bool.{Bool, true, false, cond, _&&_, _||_, true≢false}
 use mathlib.Core.List.{List, [], _∷_}
+use Rattle.line_rules.specs.declared.Format.{Format}
 use Rattle.line_rules.specs.Sending.{on}
+use Rattle.line_rules.specs.Sees.{Alike}
 use Rattle.line_rules.proofs.Choice.{either}
+use Rattle.line_rules.proofs.Ranges.{in-range-bounds}
 use Rattle.line_rules.proofs.Table.{both}
 use Rattle.link_rules.specs.declared.ReceiverHalf.{ReceiverHalf}
 use Rattle.link_rules.specs.Parts.{idleSender, idleReceiver, dropped, emptied, loaded}
 use Rattle.ins2651_rules.specs.declared.Device.{Device}
 use Rattle.ins2651_rules.specs.Shape.{resetDevice}
-use Rattle.ins2651_rules.specs.Modes.{has}
+use Rattle.ins2651_rules.specs.Modes.{has, receiveEnable, sendFormat, receiveFormat}
+use Rattle.ins2651_rules.specs.Conditions.{transmitEnabled, clearToSend, modeSet, mayStart, breakOn, carrier, listening}
 use Rattle.ins2651_rules.specs.Ranges.{inRange, settled}
 use Rattle.ins2651_rules.specs.Refusals.{writeRefusal}
 use Rattle.ins2651_rules.specs.Runs.{Call, Reset, Read, Write, SetPins, Transmit, Receive, Outputs, next, after}
@@ -22,10 +27,14 @@ use Rattle.ins2651_rules.proofs.Settled.{settled-is, reset-in}
 use Rattle.ins2651_rules.proofs.Refused.{write-address, refused-unchanged}
 use Rattle.ins2651_rules.proofs.WritesLeave.{NoErrors, ModeWritten, mode-write-leaves, CommandWritten, command-write-leaves}
 use Rattle.ins2651_rules.proofs.Rules.{off-command-drops}
+use Rattle.ins2651_rules.proofs.Formats.{format-in}
 use Rattle.ins2651_rules.proofs.InRange.{next-in}
+use Rattle.delivery.specs.Ends.{Fit}
 use Rattle.ins2651_ends.specs.OnALine.{unread, valueOf}
 use Rattle.ins2651_ends.specs.Fresh.{quiet, allQuiet, quietSinceReset}
 use Rattle.ins2651_ends.proofs.Calls.{unread-is, by-refusal, writes-is, same-none, command-sets-none, light, Light, light-leaves}
+use Rattle.ins2651_ends.proofs.Sending.{Sending}
+use Rattle.ins2651_ends.proofs.Hearing.{Hearing}
 
 pub record Untouched (d : Device) : Type 0 where
   pub within : inRange d ≡ true
@@ -139,3 +148,23 @@ quiet-writes-nothing c q = go (writesHolding c) refl
     go : (b : Bool) → writesHolding c ≡ b → writesHolding c ≡ false
     go true e = absurd (true≢false (sym q ∙ ap quiet (writes-is c e)))
     go false e = e
+
+-- == an end of a way that begins ==
+
+-- where it may start a frame and has no break on it is ready to send ..
+pub untouched-sends : (d : Device) → Untouched d → mayStart d ≡ true → breakOn d ≡ false → Sending (sendFormat (d .registers)) d
+untouched-sends d h starts no-break =
+    let t = both (transmitEnabled d && clearToSend d) (modeSet d) starts in
+    let u = both (transmitEnabled d) (clearToSend d) (t .0) in
+    record { within = h .within; enabled = u .0; clear = u .1; set = t .1; no-break = no-break; format = refl }
+
+-- .. and where it listens, to receive
+pub untouched-hears : (d : Device) → Untouched d → listening d ≡ true → Hearing (receiveFormat (d .registers)) d
+untouched-hears d h listens =
+    let t = both (receiveEnable (d .registers .command) && carrier d) (modeSet d) listens in
+    let u = both (receiveEnable (d .registers .command)) (carrier d) (t .0) in
+    record { within = h .within; enabled = u .0; carried = u .1; set = t .1; format = refl; no-errors = h .no-errors }
+
+-- its format is one of document 01's, so that it fits any that is alike
+pub sends-to : (d : Device) {g : Format} → Alike (sendFormat (d .registers)) g → Fit (sendFormat (d .registers)) g
+sends-to d alike = record { bounds = in-range-bounds (sendFormat (d .registers)) (format-in (d .registers .mode1) (has 32 (d .registers .mode2))); alike = alike }

@@ -12,30 +12,26 @@ use borrow.Author.Tests.{ne-eqb}
 use Rattle.line_rules.specs.declared.Format.{Format}
 use Rattle.line_rules.specs.Sending.{frameLength}
 use Rattle.line_rules.specs.Sees.{Alike}
-use Rattle.line_rules.proofs.Ranges.{in-range-bounds}
 use Rattle.line_rules.proofs.Table.{both}
 use Rattle.line_rules.proofs.Choice.{all, each, either, neither}
 use Rattle.link_rules.specs.declared.ReceiverHalf.{ReceiverHalf}
 use Rattle.ins2651_rules.specs.declared.Device.{Device}
-use Rattle.ins2651_rules.specs.Modes.{has, sendFormat, receiveFormat, receiveEnable}
-use Rattle.ins2651_rules.specs.Conditions.{transmitEnabled, clearToSend, modeSet, carrier}
+use Rattle.ins2651_rules.specs.Modes.{sendFormat, receiveFormat}
 use Rattle.ins2651_rules.specs.Ranges.{inRange}
 use Rattle.ins2651_rules.specs.Refusals.{writeRefusal}
 use Rattle.ins2651_rules.specs.Runs.{Call, Reset, Read, Write, SetPins, Transmit, Receive, Outputs}
 use Rattle.ins2651_rules.specs.Rows.{refusal}
 use Rattle.ins2651_rules.specs.History.{reads, writesHolding}
-use Rattle.ins2651_rules.proofs.Formats.{format-in}
 use Rattle.ins2651_ends.specs.OnALine.{flagged, statusBit, valueOf, leavesSending, leavesReceiving, refusedOr}
 use Rattle.ins2651_ends.proofs.Calls.{writes-is, refused-or}
-use Rattle.ins2651_ends.proofs.Sending.{Sending, sending-end}
-use Rattle.ins2651_ends.proofs.Hearing.{Hearing, receiving-end}
-use Rattle.ins2651_ends.proofs.Untouched.{Untouched}
+use Rattle.ins2651_ends.proofs.Sending.{sending-end}
+use Rattle.ins2651_ends.proofs.Hearing.{receiving-end}
+use Rattle.ins2651_ends.proofs.Untouched.{Untouched, untouched-sends, untouched-hears, sends-to}
 use Rattle.delivery.specs.OneWay.{Deed, Ticks, Writes, Reads, Passes, later, Logged, noLog, permits}
 use Rattle.delivery.specs.OneWay as one-way
 use Rattle.delivery.specs.Promise.{Idles, Promised}
 use Rattle.delivery.specs.Joined.{Side, A, B, other}
-use Rattle.delivery.specs.Ends.{Fit}
-use Rattle.delivery.proofs.Joined.{line-delivers, line-idles}
+use Rattle.delivery.proofs.Joined.{line-right}
 use Rattle.joined_rules.specs.declared.Pair.{Pair}
 use Rattle.joined_rules.specs.Joining.{tick, ticks}
 use Rattle.joined_rules.specs.Bench.{deviceAt, Step, Tick, At, allMoved, deedFrom, wayFrom, Bench, seenFrom, clock, step, runs}
@@ -62,37 +58,30 @@ module _ (s : Side) (p : Pair) (us : List Step) (up : FromReset us) (opened : Op
   abbrev g : Format
   g = receiveFormat (to .registers)
 
-  fit : Fit f g
-  fit = record { bounds = in-range-bounds f (format-in (from .registers .mode1) (has 32 (from .registers .mode2))); alike = opened .alike }
-
   untouched : (t : Side) → Untouched (deviceAt t set)
   untouched t = set-up-untouched t p us up
-
-  sends-before : Sending f from
-  sends-before =
-      let t = both (transmitEnabled from && clearToSend from) (modeSet from) (opened .starts) in
-      let u = both (transmitEnabled from) (clearToSend from) (t .0) in
-      record { within = untouched s .within; enabled = u .0; clear = u .1; set = t .1; no-break = opened .no-break; format = refl }
-
-  hears-before : Hearing g to
-  hears-before =
-      let t = both (receiveEnable (to .registers .command) && carrier to) (modeSet to) (opened .listens) in
-      let u = both (receiveEnable (to .registers .command)) (carrier to) (t .0) in
-      record { within = untouched (other s) .within; enabled = u .0; carried = u .1; set = t .1; format = refl; no-errors = untouched (other s) .no-errors }
 
   -- the one joined tick, and then any steps that are allowed on this way: demand 3 for it, whatever happens on the other
   abbrev start : Pair
   start = tick set .pair
 
   module _ (ss : List Step) (ok : one-way.allAllowed (wayFrom s) (frameLength f) (noLog start) ss ≡ true) where
-    pub one-way-right : Promised (wayFrom s) f (one-way.runs (wayFrom s) (noLog start) ss)
-    one-way-right =
-        line-delivers pair-joins fit s (sending-end f) (receiving-end g) set sends-before hears-before (untouched s .sender) (ap (λ (r : ReceiverHalf). r .state) (untouched (other s) .receiver)) (ap (λ (r : ReceiverHalf). r .unread) (untouched (other s) .receiver)) Tick refl ss ok
+    abbrev end-of-way : Logged Pair
+    end-of-way = one-way.runs (wayFrom s) (noLog start) ss
+
+    right : Promised (wayFrom s) f end-of-way × Idles f (deviceAt s (end-of-way .bench) .sender) (end-of-way .now) (end-of-way .log .written)
+    right =
+        line-right pair-joins (sends-to from (opened .alike)) s (sending-end f) (receiving-end g) set
+        (untouched-sends from (untouched s) (opened .starts) (opened .no-break)) (untouched-hears to (untouched (other s)) (opened .listens))
+        (untouched s .sender) (ap (λ (r : ReceiverHalf). r .state) (untouched (other s) .receiver)) (ap (λ (r : ReceiverHalf). r .unread) (untouched (other s) .receiver))
+        Tick refl ss ok
+
+    pub one-way-right : Promised (wayFrom s) f end-of-way
+    one-way-right = right .0
 
     -- 'idle', as the promise reads it from the log, is what it is in the device
-    pub one-way-idles : let end = one-way.runs (wayFrom s) (noLog start) ss in Idles f (deviceAt s (end .bench) .sender) (end .now) (end .log .written)
-    one-way-idles =
-        line-idles pair-joins fit s (sending-end f) (receiving-end g) set sends-before hears-before (untouched s .sender) (ap (λ (r : ReceiverHalf). r .state) (untouched (other s) .receiver)) (ap (λ (r : ReceiverHalf). r .unread) (untouched (other s) .receiver)) Tick refl ss ok
+    pub one-way-idles : Idles f (deviceAt s (end-of-way .bench) .sender) (end-of-way .now) (end-of-way .log .written)
+    one-way-idles = right .1
 
 -- == the bench as two ways ==
 
