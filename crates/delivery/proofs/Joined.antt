@@ -117,31 +117,29 @@ module _ {W X : Type 0} {State Call : Side → Type 0} (l : Line W X State Call)
 
 -- == the promise ==
 
--- each way of the line, from a device whose sending half is idle to one whose receiving half waits, with nothing unread, after one joined tick: what else a chip's calls and ticks do, and
--- whatever happens on the other way, does not touch it
-module _ {W X : Type 0} {State Call : Side → Type 0} {l : Line W X State Call} (joins : Joins l) {f g : Format} (fit : Fit f g) (s : Side)
+module _ {W X : Type 0} {State Call : Side → Type 0} {l : Line W X State Call} (joins : Joins l) {f g : Format} (s : Side)
     {S : State s → Type 0} {sender : State s → SenderHalf} (sending : SendingEnd (l .chip s) f S sender)
-    {R : State (other s) → Type 0} {receiver : State (other s) → ReceiverHalf} (receiving : ReceivingEnd (l .chip (other s)) g R receiver)
-    (w : W) (ready : S (l .device s w)) (listens : R (l .device (other s) w))
-    (idle : sender (l .device s w) ≡ idleSender) (waits : receiver (l .device (other s) w) .state ≡ waiting) (read : receiver (l .device (other s) w) .unread ≡ 0)
-    (x : X) (together : l .happens w x ≡ Together)
-    (xs : List X) (ok : allAllowed (wayFrom l s) (frameLength f) (noLog (l .next w x)) xs ≡ true) where
+    {R : State (other s) → Type 0} {receiver : State (other s) → ReceiverHalf} (receiving : ReceivingEnd (l .chip (other s)) g R receiver) where
   from : Sends (wayFrom l s) f (λ w. S (l .device s w)) (λ w. sender (l .device s w))
   from = side-sends l joins s sending
 
   to : Receives (wayFrom l s) g (λ w. R (l .device (other s) w)) (λ w. receiver (l .device (other s) w))
   to = side-receives l joins s receiving
 
-  begins : Begins (λ w. S (l .device s w)) (λ w. R (l .device (other s) w)) (λ w. sender (l .device s w)) (λ w. receiver (l .device (other s) w)) (l .next w x)
-  begins = tick-begins from to w x (ap (deedFrom l s w) together) (ap (steadyFrom l s w) together) ready listens idle waits read
+  abbrev BeginsAt : W → Type 0
+  BeginsAt = Begins (λ w. S (l .device s w)) (λ w. R (l .device (other s) w)) (λ w. sender (l .device s w)) (λ w. receiver (l .device (other s) w))
 
-  pub line-delivers : Promised (wayFrom l s) f (runs (wayFrom l s) (noLog (l .next w x)) xs)
-  line-delivers = way-delivers fit from to (l .next w x) begins xs ok
+  -- one joined tick makes the way begin, from a device whose sending half is idle to one whose receiving half waits, with nothing unread
+  pub line-begins : (w : W) (x : X) → l .happens w x ≡ Together → S (l .device s w) → R (l .device (other s) w) → sender (l .device s w) ≡ idleSender
+      → receiver (l .device (other s) w) .state ≡ waiting → receiver (l .device (other s) w) .unread ≡ 0 → BeginsAt (l .next w x)
+  line-begins w x together ready listens idle waits read =
+      tick-begins from to w x (ap (deedFrom l s w) together) (ap (steadyFrom l s w) together) ready listens idle waits read
 
-  -- 'idle', as the promise reads it from the log, is what it is in the sending half
-  pub line-idles : let end = runs (wayFrom l s) (noLog (l .next w x)) xs in Idles f (sender (l .device s (end .bench))) (end .now) (end .log .written)
-  line-idles = way-idles fit from to (l .next w x) begins xs ok
+  -- what else the two chips do, and whatever happens on the other way, does not touch it
+  module _ (fit : Fit f g) (w : W) (begins : BeginsAt w) (xs : List X) (ok : allAllowed (wayFrom l s) (frameLength f) (noLog w) xs ≡ true) where
+    pub line-delivers : Promised (wayFrom l s) f (runs (wayFrom l s) (noLog w) xs)
+    line-delivers = way-delivers fit from to w begins xs ok
 
-  pub line-right : let end = runs (wayFrom l s) (noLog (l .next w x)) xs in
-      Promised (wayFrom l s) f end × Idles f (sender (l .device s (end .bench))) (end .now) (end .log .written)
-  line-right = (line-delivers, line-idles)
+    -- 'idle', as the promise reads it from the log, is what it is in the sending half
+    pub line-idles : let end = runs (wayFrom l s) (noLog w) xs in Idles f (sender (l .device s (end .bench))) (end .now) (end .log .written)
+    line-idles = way-idles fit from to w begins xs ok

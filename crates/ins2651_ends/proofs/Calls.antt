@@ -97,7 +97,7 @@ by-refusal {P} d c done refused = go (eqb (refusal d c) 0) refl
 pub refused-or : {P : Type 0} (p : Call → Bool) (d : Device) (c : Call) → refusedOr p d c ≡ true → (refusal d c ≡ 0 → p c ≡ true → P) → ((refusal d c ≡ 0 → ⊥) → P) → P
 refused-or p d c a done refused = by-refusal d c (λ n. done n (rw n at a)) refused
 
-none : (b : Bool) → (b ≡ true → ⊥) → b ≡ false
+pub none : (b : Bool) → (b ≡ true → ⊥) → b ≡ false
 none true n = absurd (n refl)
 none false n = refl
 

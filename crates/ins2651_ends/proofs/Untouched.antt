@@ -32,7 +32,7 @@ use Rattle.ins2651_rules.proofs.InRange.{next-in}
 use Rattle.delivery.specs.Ends.{Fit}
 use Rattle.ins2651_ends.specs.OnALine.{unread, valueOf}
 use Rattle.ins2651_ends.specs.Fresh.{quiet, allQuiet, quietSinceReset}
-use Rattle.ins2651_ends.proofs.Calls.{unread-is, by-refusal, writes-is, same-none, command-sets-none, light, Light, light-leaves}
+use Rattle.ins2651_ends.proofs.Calls.{unread-is, writes-is, by-refusal, none, same-none, command-sets-none, light, Light, light-leaves}
 use Rattle.ins2651_ends.proofs.Sending.{Sending}
 use Rattle.ins2651_ends.proofs.Hearing.{Hearing}
 
@@ -143,11 +143,7 @@ since-reset-untouched d (c ∷ cs) q =
 
 -- a quiet call writes no character
 pub quiet-writes-nothing : (c : Call) → quiet c ≡ true → writesHolding c ≡ false
-quiet-writes-nothing c q = go (writesHolding c) refl
-  where
-    go : (b : Bool) → writesHolding c ≡ b → writesHolding c ≡ false
-    go true e = absurd (true≢false (sym q ∙ ap quiet (writes-is c e)))
-    go false e = e
+quiet-writes-nothing c q = none (writesHolding c) (λ e. true≢false (sym q ∙ ap quiet (writes-is c e)))
 
 -- == an end of a way that begins ==
 

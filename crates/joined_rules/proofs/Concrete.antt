@@ -200,7 +200,7 @@ pub one-sided-right : Promised (wayFrom A) (sends one-stop) (one-way.runs (wayFr
 unfolding part oddOnes parityBit sample link-transmitting.transmit link-hearing.receive line-range.inRange senderInRange receiverInRange formatOf statusByte inRange settled writeRefusal readRegister read writeRegister write pinned setPins transmitTick transmit receiveTick receive tick
 one-sided-right =
     one-way-right A justReset (sequences one-stop two-stops) (record { calls = refl; a-reset = refl; b-reset = refl })
-    (record { from-normal = record { asynchronous = refl; no-echo = refl; no-loopback = refl }; to-normal = record { asynchronous = refl; no-echo = refl; no-loopback = refl }; starts = refl; no-break = refl; listens = refl; alike = stops-agree .there }) one-sided one-sided-allowed
+    (record { from-normal = record { asynchronous = refl; operation = refl }; to-normal = record { asynchronous = refl; operation = refl }; starts = refl; no-break = refl; listens = refl; alike = stops-agree .there }) one-sided one-sided-allowed
 
 -- == one way, with as little as it rests on ==
 
@@ -222,7 +222,7 @@ busy =
 
 pub bare-open : Open A (allMoved justReset bare-set-up)
 unfolding part oddOnes parityBit sample link-transmitting.transmit link-hearing.receive line-range.inRange senderInRange receiverInRange formatOf statusByte inRange settled writeRefusal readRegister read writeRegister write pinned setPins transmitTick transmit receiveTick receive tick
-bare-open = record { from-normal = record { asynchronous = refl; no-echo = refl; no-loopback = refl }; to-normal = record { asynchronous = refl; no-echo = refl; no-loopback = refl }; starts = refl; no-break = refl; listens = refl; alike = stops-agree .there }
+bare-open = record { from-normal = record { asynchronous = refl; operation = refl }; to-normal = record { asynchronous = refl; operation = refl }; starts = refl; no-break = refl; listens = refl; alike = stops-agree .there }
 
 pub busy-allowed : one-way.allAllowed (wayFrom A) (frameLength (sends one-stop)) (noLog bare) busy ≡ true
 unfolding part oddOnes parityBit sample link-transmitting.transmit link-hearing.receive line-range.inRange senderInRange receiverInRange formatOf statusByte inRange settled writeRefusal readRegister read writeRegister write pinned setPins transmitTick transmit receiveTick receive tick

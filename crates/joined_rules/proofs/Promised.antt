@@ -24,14 +24,15 @@ use Rattle.ins2651_rules.specs.Rows.{refusal}
 use Rattle.ins2651_rules.specs.History.{reads, writesHolding}
 use Rattle.ins2651_ends.specs.OnALine.{flagged, statusBit, valueOf, leavesSending, leavesReceiving, refusedOr}
 use Rattle.ins2651_ends.proofs.Calls.{writes-is, refused-or}
-use Rattle.ins2651_ends.proofs.Sending.{sending-end}
-use Rattle.ins2651_ends.proofs.Hearing.{receiving-end}
+use Rattle.ins2651_ends.proofs.Sending.{Sending, sending-end}
+use Rattle.ins2651_ends.proofs.Hearing.{Hearing, receiving-end}
 use Rattle.ins2651_ends.proofs.Untouched.{Untouched, untouched-sends, untouched-hears, sends-to}
 use Rattle.delivery.specs.OneWay.{Deed, Ticks, Writes, Reads, Passes, later, Logged, noLog, permits}
 use Rattle.delivery.specs.OneWay as one-way
 use Rattle.delivery.specs.Promise.{Idles, Promised}
 use Rattle.delivery.specs.Joined.{Side, A, B, other}
-use Rattle.delivery.proofs.Joined.{line-right}
+use Rattle.delivery.specs.Ends.{Fit, Begins}
+use Rattle.delivery.proofs.Joined.{line-begins, line-delivers, line-idles}
 use Rattle.joined_rules.specs.declared.Pair.{Pair}
 use Rattle.joined_rules.specs.Joining.{tick, ticks}
 use Rattle.joined_rules.specs.Bench.{deviceAt, Step, Tick, At, allMoved, deedFrom, wayFrom, Bench, seenFrom, clock, step, runs}
@@ -61,27 +62,27 @@ module _ (s : Side) (p : Pair) (us : List Step) (up : FromReset us) (opened : Op
   untouched : (t : Side) → Untouched (deviceAt t set)
   untouched t = set-up-untouched t p us up
 
-  -- the one joined tick, and then any steps that are allowed on this way: demand 3 for it, whatever happens on the other
+  fit : Fit f g
+  fit = sends-to from (opened .alike)
+
+  -- the one joined tick
   abbrev start : Pair
   start = tick set .pair
 
+  begins : Begins (λ p. Sending f (deviceAt s p)) (λ p. Hearing g (deviceAt (other s) p)) (λ p. deviceAt s p .sender) (λ p. deviceAt (other s) p .receiver) start
+  begins =
+      line-begins pair-joins s (sending-end f) (receiving-end g) set Tick refl (untouched-sends from (untouched s) (opened .starts) (opened .no-break))
+      (untouched-hears to (untouched (other s)) (opened .listens)) (untouched s .sender)
+      (ap (λ (r : ReceiverHalf). r .state) (untouched (other s) .receiver)) (ap (λ (r : ReceiverHalf). r .unread) (untouched (other s) .receiver))
+
+  -- then any steps that are allowed on this way: demand 3 for it, whatever happens on the other
   module _ (ss : List Step) (ok : one-way.allAllowed (wayFrom s) (frameLength f) (noLog start) ss ≡ true) where
-    abbrev end-of-way : Logged Pair
-    end-of-way = one-way.runs (wayFrom s) (noLog start) ss
-
-    right : Promised (wayFrom s) f end-of-way × Idles f (deviceAt s (end-of-way .bench) .sender) (end-of-way .now) (end-of-way .log .written)
-    right =
-        line-right pair-joins (sends-to from (opened .alike)) s (sending-end f) (receiving-end g) set
-        (untouched-sends from (untouched s) (opened .starts) (opened .no-break)) (untouched-hears to (untouched (other s)) (opened .listens))
-        (untouched s .sender) (ap (λ (r : ReceiverHalf). r .state) (untouched (other s) .receiver)) (ap (λ (r : ReceiverHalf). r .unread) (untouched (other s) .receiver))
-        Tick refl ss ok
-
-    pub one-way-right : Promised (wayFrom s) f end-of-way
-    one-way-right = right .0
+    pub one-way-right : Promised (wayFrom s) f (one-way.runs (wayFrom s) (noLog start) ss)
+    one-way-right = line-delivers pair-joins s (sending-end f) (receiving-end g) fit start begins ss ok
 
     -- 'idle', as the promise reads it from the log, is what it is in the device
-    pub one-way-idles : Idles f (deviceAt s (end-of-way .bench) .sender) (end-of-way .now) (end-of-way .log .written)
-    one-way-idles = right .1
+    pub one-way-idles : let end = one-way.runs (wayFrom s) (noLog start) ss in Idles f (deviceAt s (end .bench) .sender) (end .now) (end .log .written)
+    one-way-idles = line-idles pair-joins s (sending-end f) (receiving-end g) fit start begins ss ok
 
 -- == the bench as two ways ==
 

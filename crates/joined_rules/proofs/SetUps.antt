@@ -4,7 +4,7 @@
 use Prim.Native.Nat.{ℕ, _/_, _%_}
 use native.Mathlib.Omega.{arith}
 use mathlib.Core.Path.{_≡_, refl, sym, ap, ap₂, subst, _∙_}
-use mathlib.Core.Bool.{Bool, true, false, cond, true≢false}
+use mathlib.Core.Bool.{Bool, true, false, cond, not, true≢false}
 use mathlib.Core.List.{List, [], _∷_, _++_}
 use lib.Dec.{eqb}
 use borrow.Author.Tests.{eqb-true}
@@ -19,7 +19,7 @@ use Rattle.ins2651_rules.specs.RegisterWrites.{stored}
 use Rattle.ins2651_rules.specs.Runs.{Call, after}
 use Rattle.ins2651_rules.proofs.Commands.{transmit-stored, receive-stored}
 use Rattle.ins2651_rules.proofs.InRange.{parts}
-use Rattle.ins2651_ends.specs.OnALine.{valueOf}
+use Rattle.ins2651_ends.specs.OnALine.{valueOf, normal}
 use Rattle.ins2651_rules.specs.History.{reads, writesHolding}
 use Rattle.ins2651_ends.specs.Fresh.{quiet, allQuiet}
 use Rattle.ins2651_ends.proofs.Untouched.{Untouched, none-unread, untouched-on, since-reset-untouched, quiet-writes-nothing}
@@ -124,6 +124,7 @@ module _ (s : Settings) (d : Device) (proper : Proper s) (within : inRange d ≡
       let kept : stored (s .command) / 8 % 2 ≡ s .command / 8 % 2 = omega arith in
       ap (has 8) (holds .command) ∙ ap (λ (k : ℕ). eqb k 1) kept ∙ proper .no-break
 
+  -- bits 6 and 7 stand above bit 4
   pub is-normal : Normal d
   is-normal =
       let high : stored (s .command) / 32 ≡ s .command / 32 = omega arith in
@@ -131,8 +132,8 @@ module _ (s : Settings) (d : Device) (proper : Proper s) (within : inRange d ≡
       let loopback : stored (s .command) / 128 ≡ s .command / 128 = omega (arith, high) in
       record {
         asynchronous = ap (λ (m : ℕ). eqb (m % 4) 0) (holds .mode1) ∙ proper .asynchronous;
-        no-echo = ap (has 64) (holds .command) ∙ ap (λ (k : ℕ). eqb (k % 2) 1) echo ∙ proper .no-echo;
-        no-loopback = ap (has 128) (holds .command) ∙ ap (λ (k : ℕ). eqb (k % 2) 1) loopback ∙ proper .no-loopback;
+        operation = ap normal (holds .command)
+            ∙ all (ap (λ (k : ℕ). not (eqb (k % 2) 1)) echo ∙ ap not (proper .no-echo)) (ap (λ (k : ℕ). not (eqb (k % 2) 1)) loopback ∙ ap not (proper .no-loopback));
       }
 
   pub listens : listening d ≡ true

@@ -16,7 +16,7 @@ use Rattle.ins2651_rules.specs.Conditions.{mayStart, breakOn, listening}
 use Rattle.ins2651_rules.specs.Refusals.{mode1Refusal, commandRefusal}
 use Rattle.ins2651_rules.specs.RegisterWrites.{stored}
 use Rattle.ins2651_rules.specs.Runs.{Call, Reset, Write, SetPins, byCall, otherwise, atRead, atWrite, atPins, atOutputs}
-use Rattle.ins2651_ends.specs.OnALine.{statusBit, mayWrite, unread, refusedOr}
+use Rattle.ins2651_ends.specs.OnALine.{statusBit, mayWrite, unread, normal, refusedOr}
 use Rattle.ins2651_ends.specs.Fresh.{allQuiet, quietSinceReset}
 use Rattle.delivery.specs.Log.{nothingYet}
 use Rattle.delivery.specs.OneWay.{inTime}
@@ -167,11 +167,10 @@ pub record Seen (a b : Settings) (w : Bench) : Type 0 where
 
 -- == one way alone ==
 
--- asynchronous, and in normal operation: factor bits that are not 00, and bits 6 and 7 of the command off
+-- asynchronous, with factor bits that are not 00, and in normal operation
 pub record Normal (d : Device) : Type 0 where
   pub asynchronous : eqb (d .registers .mode1 % 4) 0 ≡ false
-  pub no-echo : has 64 (d .registers .command) ≡ false
-  pub no-loopback : has 128 (d .registers .command) ≡ false
+  pub operation : normal (d .registers .command) ≡ true
 
 -- the way from this side is open after a set-up: both devices are normal, the one there may start a frame and has no break on, the other one
 -- listens, and the two formats are alike. What is then allowed is `allAllowed` of `delivery` on `wayFrom s`, and what is promised is `Promised`:

@@ -155,7 +155,7 @@ one-sided-meets =
         steps = refl;
         quiet = record { calls = refl; a-quiet = refl; b-quiet = refl };
       };
-      opened = record { from-normal = record { asynchronous = refl; no-echo = refl; no-loopback = refl }; to-normal = record { asynchronous = refl; no-echo = refl; no-loopback = refl }; starts = refl; no-break = refl; listens = refl; alike = bench.stops-agree .there };
+      opened = record { from-normal = record { asynchronous = refl; operation = refl }; to-normal = record { asynchronous = refl; operation = refl }; starts = refl; no-break = refl; listens = refl; alike = bench.stops-agree .there };
       allowed = refl;
     }
 
