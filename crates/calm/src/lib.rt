@@ -190,3 +190,26 @@ pub fn skip(mut d: Device, k: u16) -> Device
     d.receiver.state.countdown = countdown;
     d
 }
+
+// == ticks that change nothing ==
+
+// A transmit tick of it sends 1 and changes nothing.
+pub fn rests(d: Device) -> bool
+    ensures { λ r. ⌜ r ≡ Calm.rests d ⌝ }
+{
+    !(0 < d.sender.frame.place) & idle(d.sender, may_start(d), break_on(d))
+}
+
+// A receive tick of it with this level changes nothing, where it is in range.
+pub fn searches(d: Device, x: u8) -> bool
+    ensures { λ r. ⌜ r ≡ Calm.searches d x ⌝ }
+{
+    (0 < x) & listening(d) & (d.receiver.state.phase == 1)
+}
+
+// Neither does.
+pub fn still(d: Device, x: u8) -> bool
+    ensures { λ r. ⌜ r ≡ Calm.still d x ⌝ }
+{
+    searches(d, x) & rests(d)
+}

@@ -127,6 +127,10 @@ module _ (r : ReceiverHalf) (live : Bool) (f : Format) (x : Bool) where
       ∙ searches f (r .holding) (r .unread)
       ∙ ap quietly (sym e ∙ sym (clear-kept r 1 1 e))
 
+  -- .. of a half with no character under way
+  pub search-stays : live ≡ true → x ≡ true → r .state .phase ≡ 1 → clear r ≡ true → receive r live f x ≡ quietly r
+  search-stays l t e c = search-kept l t (is-clear r 1 e c) ∙ ap quietly (clear-kept r 1 1 (is-clear r 1 e c))
+
   -- a tick that is off drops nothing
   off-kept : live ≡ false → r ≡ half (atRest 0) noFormat (r .holding) (r .unread) → receive r live f x ≡ quietly (receiverSkipped 1 r)
   off-kept l e =

@@ -87,6 +87,9 @@ at-rest s t =
     let e : moved (s .frame .place) 1 ≡ s .frame .place = rw t (sym z) in
     ap (λ (j : ℕ). withFrame s (frameAt (s .frame) j)) e
 
+abbrev pub marking : SenderHalf → Sent
+marking s = record { half = s; level = true; began = false; drained = false }
+
 module _ (s : SenderHalf) (ready broken : Bool) (f : Format) (t : on (s .frame .place) ≡ false) (h : idle s ready broken ≡ true) where
   unguarded : s .guard ≡ 0
   unguarded =
@@ -100,14 +103,12 @@ module _ (s : SenderHalf) (ready broken : Bool) (f : Format) (t : on (s .frame .
       let q = both (not (ready && broken)) _ (p .0) in
       rw (t, not-so (ready && broken) (q .0), le-ltb 0 (s .guard) (omega (arith, unguarded)), not-so (ready && on (s .full)) (p .1))
 
+  -- it sends 1 and stays as it is
+  pub idle-stays : transmit s ready broken f ≡ marking s
+  idle-stays = marks-only ∙ ap (λ (g : ℕ). marking (withGuard s g)) (let e : s .guard - 1 ≡ s .guard = omega (arith, unguarded) in e)
+
   idle-counts : (m : Bool) → Counted s m (transmit s ready broken f)
-  idle-counts m =
-      rw marks-only
-      (record {
-        half = ap (withGuard s) (let e : s .guard - 1 ≡ s .guard = omega (arith, unguarded) in e) ∙ sym (at-rest s t);
-        drained = refl;
-        level = λ e. refl;
-      })
+  idle-counts m = rw idle-stays (record { half = sym (at-rest s t); drained = refl; level = λ e. refl })
 
 -- == a tick ==
 

@@ -90,3 +90,17 @@ calm d m = least (receiverCalm (d .receiver) (listening d) m) (senderCalm (d .se
 -- what k of them leave of it
 unfoldable pub skipped : ℕ → Device → Device
 skipped k d = withHalves d (senderSkipped k (d .sender)) (receiverSkipped k (d .receiver))
+
+-- == ticks that change nothing ==
+
+-- a transmit tick of it: no frame is under way and nothing may start
+unfoldable pub rests : Device → Bool
+rests d = not (on (d .sender .frame .place)) && idle (d .sender) (mayStart d) (breakOn d)
+
+-- a receive tick of it with this level, where it is in range: it searches, and finds no 0
+unfoldable pub searches : Device → ℕ → Bool
+searches d x = on x && listening d && eqb (d .receiver .state .phase) 1
+
+-- both
+unfoldable pub still : Device → ℕ → Bool
+still d x = searches d x && rests d

@@ -1,5 +1,15 @@
 pub mod Calls
 pub mod Lends
 pub mod Bytes
+pub mod Entry
 pub mod Lent
+pub mod Again
+pub mod Moves
+pub mod Early
+pub mod InTurn
+pub mod Either
+pub mod Spares
+pub mod Looks
+pub mod Refusable
+pub mod Promises
 pub mod TakenApart

@@ -1,19 +1,22 @@
 -- What each call of a lent device answers and leaves behind the reference, by the by-value calls of `ins2651`.
 -- Assumes nothing.
 use Prim.Native.Nat.{ℕ, _+_, _*_, _/_, _%_}
+use mathlib.Core.Bool.{cond}
+use Rattle.line_rules.specs.Sending.{on}
 use Rattle.ins2651_rules.specs.declared.Device.{Device}
 use Rattle.ins2651_rules.specs.declared.Answer.{Answer}
-use Rattle.ins2651_rules.specs.declared.Outcome.{Outcome}
 use Rattle.ins2651_rules.specs.declared.OutputPins.{OutputPins}
 use Rattle.ins2651_rules.specs.Shape.{resetDevice}
+use Rattle.ins2651_rules.specs.Refusals.{readRefusal, writeRefusal, pinsRefusal, levelRefusal}
 use Rattle.ins2651_rules.specs.RegisterReads as RegisterReads
 use Rattle.ins2651_rules.specs.RegisterWrites as RegisterWrites
 use Rattle.ins2651_rules.specs.Pinning as Pinning
 use Rattle.ins2651_rules.specs.Ticks as Ticks
 use Rattle.ins2651_rules.specs.Status as Status
+use Rattle.calm_rules.specs.Calm.{searches, still}
 use Rattle.host.specs.declared.Reply.{Reply}
 
--- a read as one number: 256 times the refusal, and the value
+-- a read as one number: 256 times the refusal, and the value; so a tick, whose value is the level sent
 abbrev pub word : Answer → ℕ
 word a = a .refusal * 256 + a .value
 
@@ -21,30 +24,81 @@ word a = a .refusal * 256 + a .value
 abbrev pub levels : OutputPins → ℕ
 levels o = o .txrdy + o .rxrdy * 2 + o .txemt * 4 + o .dtr * 8 + o .rts * 16
 
--- a write, a pin call or a receive tick answers its refusal
-abbrev pub done : Outcome → Reply
-done o = record { answer = o .refusal; device = o .device }
+-- == the acts on a device in range: the answer, and the device after it ==
+
+-- what is done and has no value answers 0
+abbrev pub done : Device → Reply
+done d = record { answer = 0; device = d }
 
 abbrev pub reset : Device → Reply
-reset d = record { answer = 0; device = resetDevice }
+reset d = done resetDevice
 
-abbrev pub read : Device → ℕ → Reply
-read d address = record { answer = word (RegisterReads.read d address); device = RegisterReads.read d address .device }
+-- a read that is done answers its value
+abbrev pub valued : Answer → Reply
+valued a = record { answer = a .value; device = a .device }
 
-abbrev pub write : Device → ℕ → ℕ → Reply
-write d address value = done (RegisterWrites.write d address value)
+abbrev pub readStatus : Device → ℕ → Reply
+readStatus d address = valued (RegisterReads.readStatus d)
+
+abbrev pub readData : Device → ℕ → Reply
+readData d address = valued (RegisterReads.readHolding d)
+
+abbrev pub readRegister : Device → ℕ → Reply
+readRegister d address = valued (RegisterReads.readRegister d address)
+
+abbrev pub writeData : Device → ℕ → ℕ → Reply
+writeData d address value = done (RegisterWrites.writeHolding d value)
+
+abbrev pub writeRegister : Device → ℕ → ℕ → Reply
+writeRegister d address value = done (RegisterWrites.writeRegister d address value)
 
 abbrev pub setPins : Device → ℕ → ℕ → ℕ → Reply
-setPins d dsr dcd cts = done (Pinning.setPins d dsr dcd cts)
+setPins d dsr dcd cts = done (Pinning.pinned d dsr dcd cts)
 
 abbrev pub transmit : Device → Reply
-transmit d = record { answer = Ticks.transmit d .level; device = Ticks.transmit d .device }
+transmit d = record { answer = Ticks.transmitTick d .level; device = Ticks.transmitTick d .device }
 
 abbrev pub receive : Device → ℕ → Reply
-receive d level = done (Ticks.receive d level)
+receive d level = done (Ticks.receiveTick d (on level))
 
 abbrev pub outputs : Device → Reply
-outputs d = record { answer = levels (Status.outputs d); device = d }
+outputs d = record { answer = levels (Status.outputsOf d); device = d }
+
+abbrev pub peek : Device → Reply
+peek d = record { answer = Status.statusByte d; device = d }
+
+-- any device that is in range
+abbrev pub inRange : Device → Reply
+inRange d = record { answer = 1; device = d }
+
+-- both ticks, answering the level that the second sends
+abbrev pub bothTicks : Device → ℕ → Reply
+bothTicks d level = record { answer = Ticks.bothTicks d (on level) .level; device = Ticks.bothTicks d (on level) .device }
+
+-- == a receive tick and both ticks where they are spared: of a device in range nothing else comes of it (`heard-is-tick`, `ticked-is-both`) ==
+
+abbrev pub heard : Device → ℕ → Device
+heard d level = cond (searches d level) d (Ticks.receiveTick d (on level))
+
+abbrev pub ticked : Device → ℕ → Reply
+ticked d level = cond (still d level) (record { answer = 1; device = d }) (bothTicks d level)
+
+-- == what a refused call answers of a device in range; 0 where nothing is refused ==
+
+abbrev pub readRefused : Device → ℕ → ℕ
+readRefused d address = readRefusal address * 256
+
+abbrev pub writeRefused : Device → ℕ → ℕ → ℕ
+writeRefused d address value = writeRefusal (d .registers) address value
+
+abbrev pub pinsRefused : Device → ℕ → ℕ → ℕ → ℕ
+pinsRefused d dsr dcd cts = pinsRefusal dsr dcd cts
+
+abbrev pub levelRefused : Device → ℕ → ℕ
+levelRefused d level = levelRefusal level
+
+abbrev pub tickRefused : Device → ℕ → ℕ
+tickRefused d level = levelRefusal level * 256
 
 -- == as C takes an answer apart ==
 

@@ -1,73 +1,102 @@
 // The device lent to a C host: each call finds it, advances it in place and answers one number. include/ins2651.h is C's view.
 // Whatever bytes the host lends, the call is the by-value call of `ins2651` on them; a refused call hands them back as they were.
+// A call makes the device sound once and then acts on it where it stands. For speed one function asks for the range, each act by
+// value has one caller in place, and a tick that changes nothing stores nothing (docs/DECISIONS.md).
 ghost use mathlib.Core.Path.{_≡_};
 ghost use denote.Ref.{now};
+ghost use Rattle.line_rules.specs.Sending.{bit, on};
 ghost use Rattle.ins2651_rules.specs.Shape.{resetDevice};
+ghost use Rattle.ins2651_rules.specs.Ranges.{inRange, settled};
 ghost use Rattle.ins2651_rules.specs.RegisterReads;
+ghost use Rattle.ins2651_rules.specs.RegisterReads.{readHolding, readStatus, readRegister};
 ghost use Rattle.ins2651_rules.specs.RegisterWrites;
-ghost use Rattle.ins2651_rules.specs.Pinning.{setPins};
+ghost use Rattle.ins2651_rules.specs.RegisterWrites.{writeHolding, writeRegister};
+ghost use Rattle.ins2651_rules.specs.Pinning.{pinned, setPins};
 ghost use Rattle.ins2651_rules.specs.Ticks;
+ghost use Rattle.ins2651_rules.specs.Ticks.{transmitTick, receiveTick, bothTicks};
 ghost use Rattle.ins2651_rules.specs.Status;
+ghost use Rattle.ins2651_rules.specs.Status.{statusByte, outputsOf};
 ghost use Rattle.host.specs.Replies;
-ghost use Rattle.host.specs.Replies.{word, levels};
+ghost use Rattle.host.specs.Replies.{word, levels, heard, ticked};
+use ins2651_rules::Answer;
 use ins2651_rules::Device;
-use ins2651_rules::Outcome;
 
-// A call by value: its answer as one number, and the device after it.
+// An act by value: its answer as one number, and the device after it.
 #[repr(C)]
 pub struct Reply {
     pub answer: u16,
     pub device: Device,
 }
 
-// == the calls by value ==
+// == the acts by value, on a device in range ==
 
-fn done(o: Outcome) -> Reply
-    ensures { λ r. ⌜ r ≡ Replies.done o ⌝ }
+// What is done and has no value answers 0.
+fn done(d: Device) -> Reply
+    ensures { λ r. ⌜ r ≡ Replies.done d ⌝ }
 {
-    let device = o.device;
     Reply {
-        answer: o.refusal as u16,
-        device: device,
+        answer: 0,
+        device: d,
     }
 }
 
 fn reset(d: Device) -> Reply
     ensures { λ r. ⌜ r ≡ Replies.reset d ⌝ }
 {
-    Reply {
-        answer: 0,
-        device: ins2651::reset(),
-    }
+    done(ins2651::reset())
 }
 
-fn read(d: Device, address: u8) -> Reply
-    ensures { λ r. ⌜ r ≡ Replies.read d address ⌝ }
+// A read that is done answers its value.
+fn valued(a: Answer) -> Reply
+    ensures { λ r. ⌜ r ≡ Replies.valued a ⌝ }
 {
-    let a = ins2651::read(d, address);
     let device = a.device;
     Reply {
-        answer: a.refusal as u16 * 256 + a.value as u16,
+        answer: a.value as u16,
         device: device,
     }
 }
 
-fn write(d: Device, address: u8, value: u8) -> Reply
-    ensures { λ r. ⌜ r ≡ Replies.write d address value ⌝ }
+fn read_status(d: Device, address: u8) -> Reply
+    ensures { λ r. ⌜ r ≡ Replies.readStatus d address ⌝ }
 {
-    done(ins2651::write(d, address, value))
+    valued(ins2651::read_status(d))
+}
+
+fn read_data(d: Device, address: u8) -> Reply
+    ensures { λ r. ⌜ r ≡ Replies.readData d address ⌝ }
+{
+    valued(ins2651::read_holding(d))
+}
+
+fn read_register(d: Device, address: u8) -> Reply
+    ensures { λ r. ⌜ r ≡ Replies.readRegister d address ⌝ }
+{
+    valued(ins2651::read_register(d, address))
+}
+
+fn write_data(d: Device, address: u8, value: u8) -> Reply
+    ensures { λ r. ⌜ r ≡ Replies.writeData d address value ⌝ }
+{
+    done(ins2651::write_holding(d, value))
+}
+
+fn write_register(d: Device, address: u8, value: u8) -> Reply
+    ensures { λ r. ⌜ r ≡ Replies.writeRegister d address value ⌝ }
+{
+    done(ins2651::write_register(d, address, value))
 }
 
 fn set_pins(d: Device, dsr: u8, dcd: u8, cts: u8) -> Reply
     ensures { λ r. ⌜ r ≡ Replies.setPins d dsr dcd cts ⌝ }
 {
-    done(ins2651::set_pins(d, dsr, dcd, cts))
+    done(ins2651::pinned(d, dsr, dcd, cts))
 }
 
 fn transmit(d: Device) -> Reply
     ensures { λ r. ⌜ r ≡ Replies.transmit d ⌝ }
 {
-    let t = ins2651::transmit(d);
+    let t = ins2651::transmit_tick(d);
     let device = t.device;
     Reply {
         answer: t.level as u16,
@@ -78,13 +107,13 @@ fn transmit(d: Device) -> Reply
 fn receive(d: Device, level: u8) -> Reply
     ensures { λ r. ⌜ r ≡ Replies.receive d level ⌝ }
 {
-    done(ins2651::receive(d, level))
+    done(ins2651::receive_tick(d, 0 < level))
 }
 
 fn outputs(d: Device) -> Reply
     ensures { λ r. ⌜ r ≡ Replies.outputs d ⌝ }
 {
-    let o = ins2651::outputs(d);
+    let o = ins2651::outputs_of(d);
     Reply {
         answer: o.txrdy as u16
             + o.rxrdy as u16 * 2
@@ -95,7 +124,249 @@ fn outputs(d: Device) -> Reply
     }
 }
 
+fn peek(d: Device) -> Reply
+    ensures { λ r. ⌜ r ≡ Replies.peek d ⌝ }
+{
+    Reply {
+        answer: ins2651::status_byte(d) as u16,
+        device: d,
+    }
+}
+
+// 1, of any device that is in range.
+fn in_range(d: Device) -> Reply
+    ensures { λ r. ⌜ r ≡ Replies.inRange d ⌝ }
+{
+    Reply {
+        answer: 1,
+        device: d,
+    }
+}
+
+// == what a refused call answers of a device in range, and 0 where nothing is refused ==
+
+fn read_refused(d: Device, address: u8) -> u16
+    ensures { λ r. ⌜ r ≡ Replies.readRefused d address ⌝ }
+{
+    ins2651::read_refusal(address) as u16 * 256
+}
+
+fn write_refused(d: Device, address: u8, value: u8) -> u16
+    ensures { λ r. ⌜ r ≡ Replies.writeRefused d address value ⌝ }
+{
+    ins2651::write_refusal(d.registers, address, value) as u16
+}
+
+fn pins_refused(d: Device, dsr: u8, dcd: u8, cts: u8) -> u16
+    ensures { λ r. ⌜ r ≡ Replies.pinsRefused d dsr dcd cts ⌝ }
+{
+    ins2651::pins_refusal(dsr, dcd, cts) as u16
+}
+
+fn level_refused(d: Device, level: u8) -> u16
+    ensures { λ r. ⌜ r ≡ Replies.levelRefused d level ⌝ }
+{
+    ins2651::level_refusal(level) as u16
+}
+
+fn tick_refused(d: Device, level: u8) -> u16
+    ensures { λ r. ⌜ r ≡ Replies.tickRefused d level ⌝ }
+{
+    ins2651::level_refusal(level) as u16 * 256
+}
+
+// == the acts in place ==
+
+// A device out of range becomes one just reset; answers 1 where it was in range.
+fn make_sound(d: &mut Device) -> u16
+    ensures { λ r. ⌜ (r ≡ bit (inRange (now (d .entry)))) × (now (d .exit) ≡ settled (now (d .entry))) ⌝ }
+{
+    let before = *d;
+    let sound = ins2651::in_range(before);
+    if sound {
+        return 1;
+    }
+    ins2651_reset(d)
+}
+
+fn fetch_status(d: &mut Device, address: u8) -> u16
+    ensures { λ r. ⌜ (r ≡ readStatus (now (d .entry)) .value) × (now (d .exit) ≡ readStatus (now (d .entry)) .device) ⌝ }
+{
+    let before = *d;
+    let reply = read_status(before, address);
+    *d = reply.device;
+    reply.answer
+}
+
+fn fetch_data(d: &mut Device, address: u8) -> u16
+    ensures { λ r. ⌜ (r ≡ readHolding (now (d .entry)) .value) × (now (d .exit) ≡ readHolding (now (d .entry)) .device) ⌝ }
+{
+    let before = *d;
+    let reply = read_data(before, address);
+    *d = reply.device;
+    reply.answer
+}
+
+fn fetch_register(d: &mut Device, address: u8) -> u16
+    ensures { λ r. ⌜ (r ≡ readRegister (now (d .entry)) address .value) × (now (d .exit) ≡ readRegister (now (d .entry)) address .device) ⌝ }
+{
+    let before = *d;
+    let reply = read_register(before, address);
+    *d = reply.device;
+    reply.answer
+}
+
+// Data by itself, ..
+fn fetch_other(d: &mut Device, address: u8) -> u16
+    ensures { λ r. ⌜ (r ≡ readRegister (now (d .entry)) address .value) × (now (d .exit) ≡ readRegister (now (d .entry)) address .device) ⌝ }
+{
+    if address == 0 {
+        return fetch_data(d, address);
+    }
+    fetch_register(d, address)
+}
+
+// .. and the status, which is read most.
+fn fetch(d: &mut Device, address: u8) -> u16
+    ensures { λ r. ⌜ (r ≡ readRegister (now (d .entry)) address .value) × (now (d .exit) ≡ readRegister (now (d .entry)) address .device) ⌝ }
+{
+    if address == 1 {
+        return fetch_status(d, address);
+    }
+    fetch_other(d, address)
+}
+
+fn store_data(d: &mut Device, address: u8, value: u8) -> u16
+    ensures { λ r. ⌜ (r ≡ 0) × (now (d .exit) ≡ writeHolding (now (d .entry)) value) ⌝ }
+{
+    let before = *d;
+    let reply = write_data(before, address, value);
+    *d = reply.device;
+    reply.answer
+}
+
+fn store_register(d: &mut Device, address: u8, value: u8) -> u16
+    ensures { λ r. ⌜ (r ≡ 0) × (now (d .exit) ≡ writeRegister (now (d .entry)) address value) ⌝ }
+{
+    let before = *d;
+    let reply = write_register(before, address, value);
+    *d = reply.device;
+    reply.answer
+}
+
+// Data by itself.
+fn store(d: &mut Device, address: u8, value: u8) -> u16
+    ensures { λ r. ⌜ (r ≡ 0) × (now (d .exit) ≡ writeRegister (now (d .entry)) address value) ⌝ }
+{
+    if address == 0 {
+        return store_data(d, address, value);
+    }
+    store_register(d, address, value)
+}
+
+fn pin(d: &mut Device, dsr: u8, dcd: u8, cts: u8) -> u16
+    ensures { λ r. ⌜ (r ≡ 0) × (now (d .exit) ≡ pinned (now (d .entry)) dsr dcd cts) ⌝ }
+{
+    let before = *d;
+    let reply = set_pins(before, dsr, dcd, cts);
+    *d = reply.device;
+    reply.answer
+}
+
+fn send_tick(d: &mut Device) -> u16
+    ensures { λ r. ⌜ (r ≡ transmitTick (now (d .entry)) .level) × (now (d .exit) ≡ transmitTick (now (d .entry)) .device) ⌝ }
+{
+    let before = *d;
+    let reply = transmit(before);
+    *d = reply.device;
+    reply.answer
+}
+
+// A device that rests sends 1 and stays as it is.
+fn send(d: &mut Device) -> u16
+    ensures { λ r. ⌜ (r ≡ transmitTick (now (d .entry)) .level) × (now (d .exit) ≡ transmitTick (now (d .entry)) .device) ⌝ }
+{
+    let before = *d;
+    let still = calm::rests(before);
+    if still {
+        return 1;
+    }
+    send_tick(d)
+}
+
+fn hear_tick(d: &mut Device, level: u8) -> u16
+    ensures { λ r. ⌜ (r ≡ 0) × (now (d .exit) ≡ receiveTick (now (d .entry)) (on level)) ⌝ }
+{
+    let before = *d;
+    let reply = receive(before, level);
+    *d = reply.device;
+    reply.answer
+}
+
+// A device that searches and hears a 1 stays as it is.
+fn hear(d: &mut Device, level: u8) -> u16
+    ensures { λ r. ⌜ (r ≡ 0) × (now (d .exit) ≡ heard (now (d .entry)) level) ⌝ }
+{
+    let before = *d;
+    let still = calm::searches(before, level);
+    if still {
+        return 0;
+    }
+    hear_tick(d, level)
+}
+
+fn both_ticks(d: &mut Device, level: u8) -> u16
+    ensures { λ r. ⌜ (r ≡ bothTicks (now (d .entry)) (on level) .level) × (now (d .exit) ≡ bothTicks (now (d .entry)) (on level) .device) ⌝ }
+{
+    hear_tick(d, level);
+    send_tick(d)
+}
+
+// Where neither tick changes anything the device stays as it is.
+fn hear_and_send(d: &mut Device, level: u8) -> u16
+    ensures { λ r. ⌜ (r ≡ ticked (now (d .entry)) level .answer) × (now (d .exit) ≡ ticked (now (d .entry)) level .device) ⌝ }
+{
+    let before = *d;
+    let still = calm::still(before, level);
+    if still {
+        return 1;
+    }
+    both_ticks(d, level)
+}
+
+fn show_outputs(d: &mut Device) -> u16
+    ensures { λ r. ⌜ (r ≡ levels (outputsOf (now (d .entry)))) × (now (d .exit) ≡ now (d .entry)) ⌝ }
+{
+    let before = *d;
+    let reply = outputs(before);
+    *d = reply.device;
+    reply.answer
+}
+
+fn show_status(d: &mut Device) -> u16
+    ensures { λ r. ⌜ (r ≡ statusByte (now (d .entry))) × (now (d .exit) ≡ now (d .entry)) ⌝ }
+{
+    let before = *d;
+    let reply = peek(before);
+    *d = reply.device;
+    reply.answer
+}
+
+fn show_range(d: &mut Device) -> u16
+    ensures { λ r. ⌜ (r ≡ 1) × (now (d .exit) ≡ now (d .entry)) ⌝ }
+{
+    let before = *d;
+    let reply = in_range(before);
+    *d = reply.device;
+    reply.answer
+}
+
 // == the calls on a lent device ==
+
+// What a device out of range shows: all five outputs high, and no bit of the status.
+const OUTPUTS_AFTER_RESET: u16 = 31;
+
+const STATUS_AFTER_RESET: u16 = 0;
 
 // Resets the device; answers 0.
 #[no_mangle]
@@ -113,10 +384,15 @@ pub extern "C" fn ins2651_reset(d: &mut Device) -> u16
 pub extern "C" fn ins2651_read(d: &mut Device, address: u8) -> u16
     ensures { λ r. ⌜ (r ≡ word (RegisterReads.read (now (d .entry)) address)) × (now (d .exit) ≡ RegisterReads.read (now (d .entry)) address .device) ⌝ }
 {
-    let before = *d;
-    let reply = read(before, address);
-    *d = reply.device;
-    reply.answer
+    let given = *d;
+    make_sound(d);
+    let sound = *d;
+    let refused = read_refused(sound, address);
+    if refused == 0 {
+        return fetch(d, address);
+    }
+    *d = given;
+    refused
 }
 
 // Writes a register; answers its refusal.
@@ -124,10 +400,15 @@ pub extern "C" fn ins2651_read(d: &mut Device, address: u8) -> u16
 pub extern "C" fn ins2651_write(d: &mut Device, address: u8, value: u8) -> u16
     ensures { λ r. ⌜ (r ≡ RegisterWrites.write (now (d .entry)) address value .refusal) × (now (d .exit) ≡ RegisterWrites.write (now (d .entry)) address value .device) ⌝ }
 {
-    let before = *d;
-    let reply = write(before, address, value);
-    *d = reply.device;
-    reply.answer
+    let given = *d;
+    make_sound(d);
+    let sound = *d;
+    let refused = write_refused(sound, address, value);
+    if refused == 0 {
+        return store(d, address, value);
+    }
+    *d = given;
+    refused
 }
 
 // Sets the three modem inputs; answers its refusal.
@@ -135,10 +416,15 @@ pub extern "C" fn ins2651_write(d: &mut Device, address: u8, value: u8) -> u16
 pub extern "C" fn ins2651_pins(d: &mut Device, dsr: u8, dcd: u8, cts: u8) -> u16
     ensures { λ r. ⌜ (r ≡ setPins (now (d .entry)) dsr dcd cts .refusal) × (now (d .exit) ≡ setPins (now (d .entry)) dsr dcd cts .device) ⌝ }
 {
-    let before = *d;
-    let reply = set_pins(before, dsr, dcd, cts);
-    *d = reply.device;
-    reply.answer
+    let given = *d;
+    make_sound(d);
+    let sound = *d;
+    let refused = pins_refused(sound, dsr, dcd, cts);
+    if refused == 0 {
+        return pin(d, dsr, dcd, cts);
+    }
+    *d = given;
+    refused
 }
 
 // A transmit tick; answers the level that it sends.
@@ -146,10 +432,8 @@ pub extern "C" fn ins2651_pins(d: &mut Device, dsr: u8, dcd: u8, cts: u8) -> u16
 pub extern "C" fn ins2651_transmit(d: &mut Device) -> u16
     ensures { λ r. ⌜ (r ≡ Ticks.transmit (now (d .entry)) .level) × (now (d .exit) ≡ Ticks.transmit (now (d .entry)) .device) ⌝ }
 {
-    let before = *d;
-    let reply = transmit(before);
-    *d = reply.device;
-    reply.answer
+    make_sound(d);
+    send(d)
 }
 
 // A receive tick with the line at a level; answers its refusal.
@@ -157,10 +441,31 @@ pub extern "C" fn ins2651_transmit(d: &mut Device) -> u16
 pub extern "C" fn ins2651_receive(d: &mut Device, level: u8) -> u16
     ensures { λ r. ⌜ (r ≡ Ticks.receive (now (d .entry)) level .refusal) × (now (d .exit) ≡ Ticks.receive (now (d .entry)) level .device) ⌝ }
 {
-    let before = *d;
-    let reply = receive(before, level);
-    *d = reply.device;
-    reply.answer
+    let given = *d;
+    make_sound(d);
+    let sound = *d;
+    let refused = level_refused(sound, level);
+    if refused == 0 {
+        return hear(d, level);
+    }
+    *d = given;
+    refused
+}
+
+// A receive tick with the line at a level, then a transmit tick; answers 256 times the refusal, and the level that it sends.
+#[no_mangle]
+pub extern "C" fn ins2651_tick(d: &mut Device, level: u8) -> u16
+    ensures { λ r. ⌜ (r ≡ word (Ticks.tick (now (d .entry)) level)) × (now (d .exit) ≡ Ticks.tick (now (d .entry)) level .device) ⌝ }
+{
+    let given = *d;
+    make_sound(d);
+    let sound = *d;
+    let refused = tick_refused(sound, level);
+    if refused == 0 {
+        return hear_and_send(d, level);
+    }
+    *d = given;
+    refused
 }
 
 // The levels of the outputs, as the bits of one number; the device stays as it is, in range or not.
@@ -168,8 +473,39 @@ pub extern "C" fn ins2651_receive(d: &mut Device, level: u8) -> u16
 pub extern "C" fn ins2651_outputs(d: &mut Device) -> u16
     ensures { λ r. ⌜ (r ≡ levels (Status.outputs (now (d .entry)))) × (now (d .exit) ≡ now (d .entry)) ⌝ }
 {
-    let before = *d;
-    let reply = outputs(before);
-    *d = reply.device;
-    reply.answer
+    let given = *d;
+    let sound = make_sound(d);
+    if sound == 1 {
+        return show_outputs(d);
+    }
+    *d = given;
+    OUTPUTS_AFTER_RESET
+}
+
+// The status, which is not read; the device stays as it is, in range or not.
+#[no_mangle]
+pub extern "C" fn ins2651_peek(d: &mut Device) -> u16
+    ensures { λ r. ⌜ (r ≡ Status.peek (now (d .entry))) × (now (d .exit) ≡ now (d .entry)) ⌝ }
+{
+    let given = *d;
+    let sound = make_sound(d);
+    if sound == 1 {
+        return show_status(d);
+    }
+    *d = given;
+    STATUS_AFTER_RESET
+}
+
+// 1 where the device is in range, else 0; it stays as it is.
+#[no_mangle]
+pub extern "C" fn ins2651_in_range(d: &mut Device) -> u16
+    ensures { λ r. ⌜ (r ≡ bit (inRange (now (d .entry)))) × (now (d .exit) ≡ now (d .entry)) ⌝ }
+{
+    let given = *d;
+    let sound = make_sound(d);
+    if sound == 1 {
+        return show_range(d);
+    }
+    *d = given;
+    0
 }

@@ -219,13 +219,13 @@ fn ready_bits(d: Device) -> u8
     weigh(either_mark(d), 4) + weigh(unread(d), 2) + weigh(may_write(d), 1)
 }
 
-fn status_byte(d: Device) -> u8
+pub fn status_byte(d: Device) -> u8
     ensures { λ r. ⌜ r ≡ statusByte d ⌝ }
 {
     modem_bits(d) + error_bits(d.flags) + ready_bits(d)
 }
 
-fn outputs_of(d: Device) -> OutputPins
+pub fn outputs_of(d: Device) -> OutputPins
     ensures { λ r. ⌜ r ≡ outputsOf d ⌝ }
 {
     let dtr = has(2, d.registers.command);
@@ -346,7 +346,7 @@ pub fn settle(d: Device) -> Device
 
 // == reads ==
 
-fn read_refusal(address: u8) -> u8
+pub fn read_refusal(address: u8) -> u8
     ensures { λ r. ⌜ r ≡ readRefusal address ⌝ }
 {
     if 3 < address { 1 } else { 0 }
@@ -362,11 +362,10 @@ fn refuse_read(n: u8, d: Device) -> Answer
     }
 }
 
-fn read_holding(mut d: Device) -> Answer
+pub fn read_holding(mut d: Device) -> Answer
     ensures { λ r. ⌜ r ≡ readHolding d ⌝ }
 {
-    let emptied = link::empty(d.receiver);
-    d.receiver = emptied;
+    d.receiver.unread = 0;
     Answer {
         refusal: 0,
         value: d.receiver.holding,
@@ -374,7 +373,7 @@ fn read_holding(mut d: Device) -> Answer
     }
 }
 
-fn read_status(mut d: Device) -> Answer
+pub fn read_status(mut d: Device) -> Answer
     ensures { λ r. ⌜ r ≡ readStatus d ⌝ }
 {
     let value = status_byte(d);
@@ -418,7 +417,7 @@ fn read_command(mut d: Device) -> Answer
     }
 }
 
-fn read_register(d: Device, address: u8) -> Answer
+pub fn read_register(d: Device, address: u8) -> Answer
     ensures { λ r. ⌜ r ≡ readRegister d address ⌝ }
 {
     if address == 0 {
@@ -438,10 +437,13 @@ pub fn read(d: Device, address: u8) -> Answer
     ensures { λ r. ⌜ r ≡ RegisterReads.read d address ⌝ }
 {
     let n = read_refusal(address);
-    if n == 0 {
-        return read_register(settle(d), address);
+    if 0 < n {
+        return refuse_read(n, d);
     }
-    refuse_read(n, d)
+    if in_range(d) {
+        return read_register(d, address);
+    }
+    read_register(reset(), address)
 }
 
 // == writes ==
@@ -485,7 +487,7 @@ fn command_refusal(v: u8) -> u8
     if v < 64 { 0 } else { 5 }
 }
 
-fn write_refusal(r: Registers, address: u8, v: u8) -> u8
+pub fn write_refusal(r: Registers, address: u8, v: u8) -> u8
     ensures { λ n. ⌜ n ≡ writeRefusal r address v ⌝ }
 {
     if 3 < address {
@@ -497,7 +499,7 @@ fn write_refusal(r: Registers, address: u8, v: u8) -> u8
     if address == 3 { command_refusal(v) } else { 0 }
 }
 
-fn write_holding(mut d: Device, v: u8) -> Device
+pub fn write_holding(mut d: Device, v: u8) -> Device
     ensures { λ r. ⌜ r ≡ writeHolding d v ⌝ }
 {
     let loaded = link::load(d.sender, v);
@@ -603,7 +605,7 @@ fn write_mode(mut d: Device, v: u8) -> Device
     d
 }
 
-fn write_register(d: Device, address: u8, v: u8) -> Device
+pub fn write_register(d: Device, address: u8, v: u8) -> Device
     ensures { λ r. ⌜ r ≡ writeRegister d address v ⌝ }
 {
     if address == 0 {
@@ -632,7 +634,7 @@ pub fn write(given: Device, address: u8, v: u8) -> Outcome
 
 // == pins ==
 
-fn pins_refusal(dsr: u8, dcd: u8, cts: u8) -> u8
+pub fn pins_refusal(dsr: u8, dcd: u8, cts: u8) -> u8
     ensures { λ r. ⌜ r ≡ pinsRefusal dsr dcd cts ⌝ }
 {
     let levels = (dsr <= 1) & (dcd <= 1) & (cts <= 1);
@@ -645,7 +647,7 @@ fn changes(p: Pins, dsr: u8, dcd: u8) -> bool
     (p.dsr != dsr) | (p.dcd != dcd)
 }
 
-fn pinned(mut d: Device, dsr: u8, dcd: u8, cts: u8) -> Device
+pub fn pinned(mut d: Device, dsr: u8, dcd: u8, cts: u8) -> Device
     ensures { λ r. ⌜ r ≡ Pinning.pinned d dsr dcd cts ⌝ }
 {
     let change = or_set(changes(d.pins, dsr, dcd), d.flags.change);
@@ -755,7 +757,7 @@ pub fn receive_tick(d: Device, x: bool) -> Device
     received_by(d, received(d, x))
 }
 
-fn level_refusal(x: u8) -> u8
+pub fn level_refusal(x: u8) -> u8
     ensures { λ r. ⌜ r ≡ levelRefusal x ⌝ }
 {
     if x <= 1 { 0 } else { 2 }

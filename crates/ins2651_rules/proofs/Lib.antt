@@ -4,6 +4,7 @@ pub mod Commands
 pub mod Formats
 pub mod Refused
 pub mod InRange
+pub mod Both
 pub mod Outside
 pub mod Leaves
 pub mod WritesLeave

@@ -28,6 +28,10 @@ readyBits d = weigh (eitherMark d) 4 + weigh (unread d) 2 + weigh (mayWrite d) 1
 unfoldable pub statusByte : Device → ℕ
 statusByte d = modemBits d + errorBits (d .flags) + readyBits d
 
+-- the status looked at and not read: the change-mark stays
+unfoldable pub peek : Device → ℕ
+peek d = statusByte (settled d)
+
 -- TxRDY, RxRDY and TxEMT/DSCHG are the complements of status bits 0, 1 and 2; DTR and RTS of command bits 1 and 5
 unfoldable pub outputsOf : Device → OutputPins
 outputsOf d =

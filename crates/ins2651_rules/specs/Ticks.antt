@@ -12,9 +12,10 @@ use Rattle.link_rules.specs.Transmitting as link-transmitting
 use Rattle.link_rules.specs.Hearing as link-hearing
 use Rattle.ins2651_rules.specs.declared.Flags.{Flags}
 use Rattle.ins2651_rules.specs.declared.Device.{Device}
+use Rattle.ins2651_rules.specs.declared.Answer.{Answer}
 use Rattle.ins2651_rules.specs.declared.Outcome.{Outcome}
 use Rattle.ins2651_rules.specs.declared.Ticked.{Ticked}
-use Rattle.ins2651_rules.specs.Shape.{withSender, withReceiver, withErrors, withEmpty, done, refused, ticked}
+use Rattle.ins2651_rules.specs.Shape.{withSender, withReceiver, withErrors, withEmpty, answered, refusedRead, done, refused, ticked}
 use Rattle.ins2651_rules.specs.Modes.{sendFormat, receiveFormat}
 use Rattle.ins2651_rules.specs.Conditions.{transmitEnabled, mayStart, breakOn, listening}
 use Rattle.ins2651_rules.specs.Pinning.{orSet}
@@ -60,3 +61,17 @@ receiveTick d x = receivedBy d (received d x)
 -- the call
 unfoldable pub receive : Device → ℕ → Outcome
 receive d x = cond (eqb (levelRefusal x) 0) (done (receiveTick (settled d) (on x))) (refused (levelRefusal x) d)
+
+-- == both ticks of a device, as a host's loop does them ==
+
+-- the receive tick with a level, then the transmit tick, of a device in range
+abbrev pub bothTicks : Device → Bool → Ticked
+bothTicks d x = transmitTick (receiveTick d x)
+
+-- a transmit tick as an answer: its value is the level sent
+abbrev pub sending : Ticked → Answer
+sending t = answered (t .level) (t .device)
+
+-- the call: a level that is refused does neither tick
+unfoldable pub tick : Device → ℕ → Answer
+tick d x = cond (eqb (levelRefusal x) 0) (sending (bothTicks (settled d) (on x))) (refusedRead (levelRefusal x) d)

@@ -1,4 +1,5 @@
 pub mod Joining
+pub mod Rounds
 pub mod Bench
 pub mod Demand3
 pub mod Skipping

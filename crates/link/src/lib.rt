@@ -116,7 +116,7 @@ fn frame_tick(mut s: SenderHalf, g: Frame, began: bool) -> Sent
     }
 }
 
-// The waiting character begins its frame.
+// The waiting character begins its frame, with the start's level.
 fn begin_tick(s: SenderHalf, f: Format) -> Sent
     ensures { λ r. ⌜ r ≡ beginTick s f ⌝ }
 {
@@ -125,7 +125,15 @@ fn begin_tick(s: SenderHalf, f: Format) -> Sent
         format: f,
         place: 0,
     };
-    frame_tick(unload(s), g, true)
+    let next = frame_next(g);
+    let mut begun = unload(s);
+    begun.frame = next;
+    Sent {
+        half: begun,
+        level: false,
+        began: true,
+        drained: next_place(f, 0) == 0,
+    }
 }
 
 fn idle_tick(mut s: SenderHalf, x: bool, guard: u8) -> Sent
