@@ -7,7 +7,10 @@
  *     pins DSR DCD CTS      REFUSAL
  *     transmit              LEVEL
  *     receive LEVEL         REFUSAL
+ *     tick LEVEL            REFUSAL LEVEL   the level sent
  *     outputs               TXRDY RXRDY TXEMT DTR RTS
+ *     peek                  STATUS
+ *     in_range              0 or 1
  *     device HEX            0       the device's 44 bytes are set, by exactly 88 digits 0-9, a-f
  *     bytes                 HEX     the device's 44 bytes, its padding as 00
  *
@@ -64,7 +67,7 @@ static void print_bytes(void) {
     printf("\n");
 }
 
-static void print_read(unsigned answer) {
+static void print_refusal_and_value(unsigned answer) {
     printf("%u %u\n", INS2651_REFUSAL(answer), INS2651_VALUE(answer));
 }
 
@@ -78,10 +81,13 @@ static int does(const char *line) {
     uint8_t n[3];
     if (is(line, "transmit", 0, n)) printf("%d\n", ins2651_transmit(&device));
     else if (is(line, "receive", 1, n)) printf("%d\n", ins2651_receive(&device, n[0]));
-    else if (is(line, "read", 1, n)) print_read(ins2651_read(&device, n[0]));
+    else if (is(line, "tick", 1, n)) print_refusal_and_value(ins2651_tick(&device, n[0]));
+    else if (is(line, "read", 1, n)) print_refusal_and_value(ins2651_read(&device, n[0]));
     else if (is(line, "write", 2, n)) printf("%d\n", ins2651_write(&device, n[0], n[1]));
     else if (is(line, "pins", 3, n)) printf("%d\n", ins2651_pins(&device, n[0], n[1], n[2]));
     else if (is(line, "outputs", 0, n)) print_outputs(ins2651_outputs(&device));
+    else if (is(line, "peek", 0, n)) printf("%d\n", ins2651_peek(&device));
+    else if (is(line, "in_range", 0, n)) printf("%d\n", ins2651_in_range(&device));
     else if (is(line, "reset", 0, n)) printf("%d\n", ins2651_reset(&device));
     else if (is(line, "bytes", 0, n)) print_bytes();
     else if (strncmp(line, "device ", 7) == 0 && set_bytes(line + 7)) printf("0\n");
