@@ -20,11 +20,15 @@ pub enum Call {
     Transmit,
     Receive(u8),
     Outputs,
+    Tick(u8),
+    Peek,
+    InRange,
 }
 
 impl Call {
-    pub const NAMES: [&'static str; 7] = [
-        "reset", "read", "write", "pins", "transmit", "receive", "outputs",
+    pub const NAMES: [&'static str; 10] = [
+        "reset", "read", "write", "pins", "transmit", "receive", "outputs", "tick", "peek",
+        "in_range",
     ];
 
     pub fn name(&self) -> &'static str {
@@ -36,8 +40,16 @@ impl Call {
             Call::Transmit => 4,
             Call::Receive(_) => 5,
             Call::Outputs => 6,
+            Call::Tick(_) => 7,
+            Call::Peek => 8,
+            Call::InRange => 9,
         };
         Call::NAMES[place]
+    }
+
+    /// Whether it looks at the device and leaves it.
+    fn only_looks(&self) -> bool {
+        matches!(self, Call::Outputs | Call::Peek | Call::InRange)
     }
 
     /// The refusal, and the numbers that the driver answers.
@@ -56,6 +68,13 @@ impl Call {
             Call::Transmit => return (0, vec![chip.transmit()]),
             Call::Receive(level) => chip.receive(level),
             Call::Outputs => return (0, chip.outputs().to_vec()),
+            Call::Tick(level) => {
+                let (refusal, sent) = chip.tick(level);
+                return (refusal, vec![refusal, sent]);
+            }
+            Call::Peek => return (0, vec![chip.peek()]),
+            // A chip of the model is always in range.
+            Call::InRange => return (0, vec![1]),
         };
         (refusal, vec![refusal])
     }
@@ -66,15 +85,18 @@ impl Call {
 pub enum Garbage {
     AllOnes,
     Random,
+    /// A device just reset but for one byte.
+    OneByte,
 }
 
 impl Garbage {
-    pub const ALL: [Garbage; 2] = [Garbage::AllOnes, Garbage::Random];
+    pub const ALL: [Garbage; 3] = [Garbage::AllOnes, Garbage::Random, Garbage::OneByte];
 
     pub fn name(&self) -> &'static str {
         match self {
             Garbage::AllOnes => "all ones",
             Garbage::Random => "random bytes",
+            Garbage::OneByte => "one wrong byte",
         }
     }
 }
@@ -93,10 +115,13 @@ impl fmt::Display for Line {
             Line::Call(call) => {
                 write!(f, "{}", call.name())?;
                 match *call {
-                    Call::Read(number) | Call::Receive(number) => write!(f, " {number}"),
+                    Call::Read(number) | Call::Receive(number) | Call::Tick(number) => {
+                        write!(f, " {number}")
+                    }
                     Call::Write(address, value) => write!(f, " {address} {value}"),
                     Call::Pins([dsr, dcd, cts]) => write!(f, " {dsr} {dcd} {cts}"),
-                    Call::Reset | Call::Transmit | Call::Outputs => Ok(()),
+                    Call::Reset | Call::Transmit => Ok(()),
+                    Call::Outputs | Call::Peek | Call::InRange => Ok(()),
                 }
             }
             Line::Device(_, bytes) => write!(f, "device {}", hexadecimal(bytes)),
@@ -147,14 +172,15 @@ impl Lent {
     }
 
     /// The refusal, and the numbers answered. A refused call hands bytes out of
-    /// range back as given, and `outputs` hands no device back at all.
+    /// range back as given, and so does one that only looks.
     pub fn call(&mut self, call: &Call) -> (u8, Vec<u8>) {
         match self {
             Lent::InRange(chip) => call.make(chip),
+            Lent::OutOfRange(..) if *call == Call::InRange => (0, vec![0]),
             Lent::OutOfRange(..) => {
                 let mut chip = Chip::just_reset();
                 let answer = call.make(&mut chip);
-                if answer.0 == 0 && *call != Call::Outputs {
+                if answer.0 == 0 && !call.only_looks() {
                     *self = Lent::InRange(chip);
                 }
                 answer
@@ -241,6 +267,7 @@ fn simpler_lines(line: &Line) -> Vec<Line> {
     let calls: Vec<Call> = match *line {
         Line::Call(Call::Read(address)) => less(address).map(Call::Read).collect(),
         Line::Call(Call::Receive(level)) => less(level).map(Call::Receive).collect(),
+        Line::Call(Call::Tick(level)) => less(level).map(Call::Tick).collect(),
         Line::Call(Call::Write(address, value)) => less(value)
             .map(|value| Call::Write(address, value))
             .collect(),

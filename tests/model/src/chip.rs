@@ -311,6 +311,16 @@ impl Chip {
         DONE
     }
 
+    /// Both ticks of a chip as a host's loop does them: a receive tick with the
+    /// line at `level`, then a transmit tick. The refusal and the level sent; a
+    /// refused one does neither.
+    pub fn tick(&mut self, level: u8) -> (u8, u8) {
+        match self.receive(level) {
+            DONE => (DONE, self.transmit()),
+            refusal => (refusal, 0),
+        }
+    }
+
     /// What happens at D ("Receiving").
     fn arrive(&mut self, character: Character) {
         self.overrun |= self.unread;
@@ -336,6 +346,11 @@ impl Chip {
             self.command & RTS,
         ]
         .map(|bit| u8::from(bit == 0))
+    }
+
+    /// The status as a debugger looks at it: the change-mark stays.
+    pub fn peek(&self) -> u8 {
+        self.status()
     }
 
     /// SYN1, SYN2 and DLE, which no call of the chip itself reads.

@@ -61,6 +61,17 @@ const OF_SESSIONS: [&str; 8] = [
     "missing last newline",
 ];
 
+/// What only calls can reach.
+const OF_CALLS: [&str; 7] = [
+    "ticks of both",
+    "ticks of both inside a frame sent and one received",
+    "ticks of both with a frame begun",
+    "ticks of both with an arrival",
+    "ticks of both refused",
+    "peeks with the change-mark set",
+    "out of range seen",
+];
+
 /// A call refused on a device out of range, whose bytes then stay.
 const REFUSED: &str = "refused";
 
@@ -78,7 +89,8 @@ impl Reach {
     }
 
     pub fn of_calls() -> Reach {
-        let mut names: Vec<String> = Call::NAMES.map(String::from).to_vec();
+        let names = Call::NAMES.into_iter().chain(OF_CALLS);
+        let mut names: Vec<String> = names.map(String::from).collect();
         for garbage in Garbage::ALL {
             names.extend(Call::NAMES.map(|call| on_garbage(garbage, call)));
             names.push(on_garbage(garbage, REFUSED));
@@ -284,8 +296,11 @@ impl Reach {
         for line in lines {
             if let Line::Call(call) = line {
                 let before = lent.view();
-                let (refusal, _) = lent.call(call);
+                let (refusal, answer) = lent.call(call);
                 self.count(call.name());
+                if *call == Call::InRange && answer == [0] {
+                    self.count("out of range seen");
+                }
                 self.called(call, refusal, &before, &lent.view());
                 if let Some(garbage) = garbage {
                     self.called_first(garbage, call, refusal);
@@ -310,6 +325,9 @@ impl Reach {
 
     fn called(&mut self, call: &Call, refusal: u8, before: &View, after: &View) {
         if refusal != 0 {
+            if let Call::Tick(_) = call {
+                self.count("ticks of both refused");
+            }
             return self.count(&format!("refusal {refusal}"));
         }
         match *call {
@@ -320,7 +338,24 @@ impl Reach {
             Call::Receive(_) => {
                 self.received(before, after);
             }
-            Call::Read(_) | Call::Outputs => {}
+            Call::Tick(_) => self.ticked(before, after),
+            Call::Peek if before.change_mark => self.count("peeks with the change-mark set"),
+            Call::Read(_) | Call::Outputs | Call::Peek | Call::InRange => {}
+        }
+    }
+
+    /// Both ticks in one call: no part of the view changes by both.
+    fn ticked(&mut self, before: &View, after: &View) {
+        self.count("ticks of both");
+        if before.sending && before.hearing.is_some() {
+            self.count("ticks of both inside a frame sent and one received");
+        }
+        if after.sending && !before.sending {
+            self.count("ticks of both with a frame begun");
+        }
+        self.transmitted(before, after);
+        if self.received(before, after) {
+            self.count("ticks of both with an arrival");
         }
     }
 }

@@ -2,7 +2,8 @@
 //! cases", the session it works out, and its rules one by one, as P1 of the
 //! change requests mends them.
 
-use model::chip::{set_up, Chip};
+use model::calls::{Call, Lent, DEVICE_BYTES};
+use model::chip::{joined_ticks, set_up, Chip};
 use model::{frame, read, Format};
 
 // The status bits.
@@ -1052,6 +1053,107 @@ fn the_chip_hears_what_the_reading_reads() {
             }
         }
         assert_eq!(expected.next(), None);
+    }
+}
+
+// Both ticks in one call, and the looks that leave the device.
+
+/// Rounds in which each chip is ticked with the level that the other sent last;
+/// the levels that both sent last.
+fn rounds(chips: [&mut Chip; 2], [mut from_a, mut from_b]: [u8; 2], count: usize) -> [u8; 2] {
+    let [a, b] = chips;
+    for _ in 0..count {
+        let sent = [a.tick(from_b), b.tick(from_a)];
+        assert_eq!(sent.map(|(refusal, _)| refusal), [0, 0]);
+        [from_a, from_b] = sent.map(|(_, level)| level);
+    }
+    [from_a, from_b]
+}
+
+#[test]
+fn rounds_of_ticks_are_joined_ticks() {
+    let busy = busy_chips();
+    for (i, a) in busy.iter().enumerate() {
+        for b in &busy[..=i] {
+            for count in [0, 1, 2, 9, 10, 11, 176, 800] {
+                let (mut a1, mut b1) = (a.clone(), b.clone());
+                let first = [a1.transmit(), b1.transmit()];
+                let last = rounds([&mut a1, &mut b1], first, count);
+                // The rounds end with one more transmit tick of each.
+                let (mut a2, mut b2) = (a.clone(), b.clone());
+                joined_ticks(&mut a2, &mut b2, count as u32);
+                assert_eq!([a2.transmit(), b2.transmit()], last);
+                assert_eq!((a1, b1), (a2, b2), "after {count}");
+            }
+        }
+    }
+}
+
+#[test]
+fn a_tick_is_a_receive_tick_then_a_transmit_tick() {
+    for chip in busy_chips() {
+        for level in [0, 1] {
+            let (mut both, mut apart) = (chip.clone(), chip.clone());
+            assert_eq!(apart.receive(level), 0);
+            let sent = apart.transmit();
+            assert_eq!(both.tick(level), (0, sent));
+            assert_eq!(both, apart);
+        }
+    }
+}
+
+#[test]
+fn a_refused_tick_does_nothing() {
+    for chip in busy_chips() {
+        for level in 2..=255 {
+            let mut tried = chip.clone();
+            assert_eq!(tried.tick(level), (2, 0));
+            assert_eq!(tried, chip);
+        }
+    }
+}
+
+#[test]
+fn a_peek_is_a_status_read_that_leaves_the_mark() {
+    for chip in busy_chips() {
+        let mut looked = chip.clone();
+        assert_eq!(looked.peek(), looked.clone().read(1).1);
+        assert_eq!(looked, chip);
+    }
+    let mut chip = set_up(77, 0, 0);
+    assert_eq!([chip.peek(), chip.peek()], [PINS + MARK; 2]);
+    assert_eq!(get(&mut chip, 1), PINS + MARK);
+    assert_eq!(chip.peek(), PINS);
+}
+
+/// Devices out of range: any bytes, as the model does not look at them.
+fn out_of_range() -> Lent {
+    Lent::OutOfRange([255; DEVICE_BYTES])
+}
+
+#[test]
+fn looks_at_a_device_out_of_range_leave_it() {
+    let mut lent = out_of_range();
+    assert_eq!(lent.call(&Call::InRange), (0, vec![0]));
+    assert_eq!(lent.call(&Call::Peek), (0, vec![0]));
+    assert_eq!(lent.call(&Call::Outputs), (0, vec![1; 5]));
+    assert_eq!(lent.call(&Call::InRange), (0, vec![0]));
+    // A reset makes it one in range.
+    assert_eq!(lent.call(&Call::Reset), (0, vec![0]));
+    assert_eq!(lent.call(&Call::InRange), (0, vec![1]));
+}
+
+#[test]
+fn a_tick_of_a_device_out_of_range() {
+    let mut lent = out_of_range();
+    // A refused one hands the bytes back as given.
+    assert_eq!(lent.call(&Call::Tick(2)), (2, vec![2, 0]));
+    assert_eq!(lent.call(&Call::InRange), (0, vec![0]));
+    for level in [0, 1] {
+        let mut lent = out_of_range();
+        assert_eq!(lent.call(&Call::Tick(level)), (0, vec![0, 1]));
+        assert_eq!(lent.call(&Call::InRange), (0, vec![1]));
+        assert_eq!(lent.call(&Call::Peek), (0, vec![0]));
     }
 }
 

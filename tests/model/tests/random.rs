@@ -291,6 +291,11 @@ fn mend(lent: &mut Lent) {
     }
 }
 
+/// Whether a line shows that a device was mended.
+fn shows_the_device(line: &Line) -> bool {
+    matches!(line, Line::Bytes | Line::Call(Call::InRange))
+}
+
 #[test]
 fn a_right_driver_is_found_right() {
     for lines in (0..RUNS).step_by(12).map(run) {
@@ -317,7 +322,8 @@ fn a_device_mended_by_a_refused_call_is_found() {
     };
     let found = WrongDriver { after, ..RIGHT }.found();
     assert_eq!(found.len(), 3);
-    assert_eq!(found[1..], [Line::Call(Call::Read(4)), Line::Bytes]);
+    assert_eq!(found[1], Line::Call(Call::Read(4)));
+    assert!(shows_the_device(&found[2]));
 }
 
 #[test]
@@ -329,7 +335,58 @@ fn a_device_mended_by_a_look_at_the_outputs_is_found() {
     };
     let found = WrongDriver { after, ..RIGHT }.found();
     assert_eq!(found.len(), 3);
-    assert_eq!(found[1..], [Line::Call(Call::Outputs), Line::Bytes]);
+    assert_eq!(found[1], Line::Call(Call::Outputs));
+    assert!(shows_the_device(&found[2]));
+}
+
+#[test]
+fn a_device_mended_by_a_look_at_its_range_is_found() {
+    let after = |lent: &mut Lent, line: &Line, _: &mut String| {
+        if let Line::Call(Call::InRange) = line {
+            mend(lent);
+        }
+    };
+    let found = WrongDriver { after, ..RIGHT }.found();
+    assert_eq!(found.len(), 3);
+    assert_eq!(found[1], Line::Call(Call::InRange));
+    assert!(shows_the_device(&found[2]));
+}
+
+#[test]
+fn a_peek_that_reads_is_found() {
+    let after = |lent: &mut Lent, line: &Line, _: &mut String| {
+        if let (Lent::InRange(chip), Line::Call(Call::Peek)) = (lent, line) {
+            chip.read(1);
+        }
+    };
+    let found = WrongDriver { after, ..RIGHT }.found();
+    // Reset, a change of a pin, and two looks.
+    assert_eq!(found.len(), 4, "{}", model::calls::text(&found));
+}
+
+#[test]
+fn a_refused_tick_that_transmits_is_found() {
+    let after = |lent: &mut Lent, line: &Line, _: &mut String| {
+        if let (Lent::InRange(chip), Line::Call(Call::Tick(2..))) = (lent, line) {
+            chip.transmit();
+        }
+    };
+    let found = WrongDriver { after, ..RIGHT }.found();
+    assert!(found.contains(&Line::Call(Call::Tick(2))));
+    // Reset, set-up, a character, the refused tick, transmit ticks up to a level
+    // that is not the next one's.
+    assert!(found.len() <= 12, "{}", model::calls::text(&found));
+}
+
+#[test]
+fn a_tick_that_hears_twice_is_found() {
+    let before = |lent: &mut Lent, line: &Line| {
+        if let (Lent::InRange(chip), Line::Call(Call::Tick(0..=1))) = (lent, line) {
+            chip.receive(1);
+        }
+    };
+    let found = WrongDriver { before, ..RIGHT }.found();
+    assert!(found.len() <= 22, "{}", model::calls::text(&found));
 }
 
 #[test]

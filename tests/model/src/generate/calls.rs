@@ -1,6 +1,6 @@
-//! Random runs of calls for the C driver. Each run has its own proportion of
-//! transmit and receive ticks; the levels received are frames, good and damaged,
-//! short pulses and noise, or what was sent.
+//! Random runs of calls for the C driver. Each run has its own turns of transmit
+//! and receive ticks, apart or in one call; the levels received are frames, good
+//! and damaged, short pulses and noise, or what was sent.
 
 use super::{accepted_mode, any_mode, ACCEPTED_MODES};
 use crate::calls::{Call, Garbage, Lent, Line, DEVICE_BYTES};
@@ -15,10 +15,55 @@ const LINES: usize = 2800;
 /// The kind in the seeds, behind those of the sessions.
 const KIND: u32 = 4;
 
-/// Transmit ticks and receive ticks of one turn, and whether the level received
-/// is the one that was sent.
-const PROPORTIONS: [(u32, u32, bool); 4] =
-    [(4, 1, false), (1, 4, false), (1, 1, false), (1, 1, true)];
+/// One turn of a run.
+#[derive(Clone, Copy)]
+enum Turn {
+    /// Transmit ticks, then receive ticks.
+    Apart { transmits: u32, receives: u32 },
+    /// A transmit tick, then a receive tick with the level that was sent.
+    ApartLooped,
+    /// Both ticks in one call.
+    Both,
+    /// Both in one call, with the level that the turn before sent.
+    BothLooped,
+}
+
+const TURNS: [Turn; 6] = [
+    Turn::Apart {
+        transmits: 4,
+        receives: 1,
+    },
+    Turn::Apart {
+        transmits: 1,
+        receives: 4,
+    },
+    Turn::Apart {
+        transmits: 1,
+        receives: 1,
+    },
+    Turn::ApartLooped,
+    Turn::Both,
+    Turn::BothLooped,
+];
+
+/// The bytes of a device just reset that have a range: the first and the last of
+/// some that are alike, and the least number that is out of range in each, alone
+/// and with all above it (docs/RANGES.md).
+const LEAST_OUT_OF_RANGE: [(usize, usize, u8); 13] = [
+    (0, 0, 1),    // mode 1, which was not accepted
+    (2, 2, 1),    // accepted, with no mode 1
+    (3, 3, 64),   // the command
+    (7, 7, 2),    // the mode pointer
+    (8, 8, 3),    // the SYN pointer
+    (9, 11, 2),   // the pins
+    (12, 20, 1),  // the frame, and a character that does not wait
+    (21, 21, 2),  // full
+    (22, 22, 65), // the guard
+    (24, 24, 2),  // the receiver's phase
+    (25, 34, 1),  // the character under way
+    (36, 36, 2),  // unread
+    (38, 42, 2),  // the flags
+];
 
 /// A run that is being written, and the device that it leaves.
 struct Run<'a> {
@@ -27,6 +72,8 @@ struct Run<'a> {
     lent: Lent,
     /// The levels that come on the line.
     levels: VecDeque<u8>,
+    /// The level that was sent last.
+    sent: u8,
 }
 
 pub fn run(index: u32) -> Vec<Line> {
@@ -36,12 +83,13 @@ pub fn run(index: u32) -> Vec<Line> {
         lines: Vec::new(),
         lent: Lent::InRange(Chip::just_reset()),
         levels: VecDeque::new(),
+        sent: 1,
     };
     run.garbage();
     let mut mode = index * ACCEPTED_MODES / RUNS;
     while run.lines.len() < LINES {
         run.set_up(accepted_mode(mode % ACCEPTED_MODES));
-        run.episode(PROPORTIONS[(index % 4) as usize]);
+        run.episode(TURNS[index as usize % TURNS.len()]);
         mode += 1;
     }
     run.lines
@@ -63,13 +111,14 @@ impl Run<'_> {
         let bytes = match garbage {
             Garbage::AllOnes => [255; DEVICE_BYTES],
             Garbage::Random => [(); DEVICE_BYTES].map(|()| self.draws.byte()),
+            Garbage::OneByte => one_wrong_byte(self.draws),
         };
         self.add(Line::Device(garbage, bytes));
     }
 
     /// Each call as the first on a device out of range, then the bytes, which
-    /// the model knows after a refusal and after `outputs`, and a look at what
-    /// the device is now.
+    /// the model knows after a refusal and after a call that only looks, and a
+    /// look at what the device is now.
     fn garbage(&mut self) {
         let level = self.draws.between(2, 255) as u8;
         let address = self.draws.between(4, 255) as u8;
@@ -88,13 +137,18 @@ impl Run<'_> {
             Call::Transmit,
             Call::Receive(value & 1),
             Call::Receive(level),
+            Call::Tick(value & 1),
+            Call::Tick(level),
             Call::Outputs,
+            Call::Peek,
+            Call::InRange,
         ];
         for garbage in Garbage::ALL {
             for call in calls {
                 self.device(garbage);
                 self.call(call);
                 self.add(Line::Bytes);
+                self.call(Call::InRange);
                 self.call(Call::Outputs);
                 for address in [1, 2, 2, 3, 0] {
                     self.call(Call::Read(address));
@@ -107,8 +161,10 @@ impl Run<'_> {
     /// range, or on the device as it is.
     fn set_up(&mut self, mode1: u8) {
         match self.draws.below(8) {
-            0 => self.device(Garbage::AllOnes),
-            1 => self.device(Garbage::Random),
+            0..=1 => {
+                let garbage = self.draws.of(&Garbage::ALL);
+                self.device(garbage);
+            }
             2..=5 => drop(self.call(Call::Reset)),
             _ => {}
         }
@@ -134,28 +190,58 @@ impl Run<'_> {
     }
 
     /// A few frames of turns, more of the short ones, with other calls between.
-    fn episode(&mut self, (transmits, receives, looped): (u32, u32, bool)) {
+    fn episode(&mut self, turn: Turn) {
         let length = self.format().frame_length();
+        let receives = match turn {
+            Turn::Apart { receives, .. } => receives,
+            Turn::ApartLooped | Turn::Both | Turn::BothLooped => 1,
+        };
         let turns = (3 * length + 60) / receives + self.draws.below(20);
-        for turn in 0..turns {
-            let mut level = 1;
-            for _ in 0..transmits {
-                level = self.call(Call::Transmit)[0];
-            }
-            for _ in 0..receives {
-                let level = if looped { level } else { self.level() };
-                self.call(Call::Receive(level));
-            }
+        for done in 0..turns {
+            self.turn(turn);
             if self.draws.one_in(length / 3 + 2) {
                 self.attend();
             }
             // The first character comes whole.
-            if turn * receives > length && self.draws.one_in(length + 2) {
+            if done * receives > length && self.draws.one_in(length + 2) {
                 self.disturb();
             }
         }
         self.call(Call::Read(1));
         self.call(Call::Read(0));
+    }
+
+    fn turn(&mut self, turn: Turn) {
+        match turn {
+            Turn::Apart {
+                transmits,
+                receives,
+            } => {
+                (0..transmits).for_each(|_| self.transmit());
+                for _ in 0..receives {
+                    let level = self.level();
+                    self.call(Call::Receive(level));
+                }
+            }
+            Turn::ApartLooped => {
+                self.transmit();
+                self.call(Call::Receive(self.sent));
+            }
+            Turn::Both => {
+                let level = self.level();
+                self.tick(level);
+            }
+            Turn::BothLooped => self.tick(self.sent),
+        }
+    }
+
+    fn transmit(&mut self) {
+        self.sent = self.call(Call::Transmit)[0];
+    }
+
+    /// Both ticks, with a level that is not refused.
+    fn tick(&mut self, level: u8) {
+        self.sent = self.call(Call::Tick(level))[1];
     }
 
     /// The next level on the line; a new piece of the recording where it is over.
@@ -169,19 +255,22 @@ impl Run<'_> {
 
     /// What a host does all the time.
     fn attend(&mut self) {
-        let call = match self.draws.below(8) {
+        let call = match self.draws.below(11) {
             0..=2 => Call::Write(0, self.draws.byte()),
             3..=4 => Call::Read(1),
             5 => Call::Read(0),
             6 => Call::Read(self.draws.below(5) as u8),
-            _ => Call::Outputs,
+            7 => Call::Outputs,
+            8 => Call::Peek,
+            9 => Call::InRange,
+            _ => Call::Tick(self.level()),
         };
         self.call(call);
     }
 
     /// What it does seldom, or never.
     fn disturb(&mut self) {
-        let call = match self.draws.below(16) {
+        let call = match self.draws.below(18) {
             0 => Call::Reset,
             1..=2 => Call::Write(2, self.draws.byte()),
             3..=4 => Call::Write(2, any_mode(self.draws)),
@@ -194,6 +283,8 @@ impl Run<'_> {
             12 => Call::Receive(self.draws.byte()),
             13 => Call::Read(self.draws.byte()),
             14 => Call::Write(self.draws.byte(), self.draws.byte()),
+            15 => Call::Tick(self.draws.between(2, 255) as u8),
+            16 => return self.glance(),
             _ => Call::Write(1, self.draws.byte()),
         };
         self.call(call);
@@ -222,6 +313,15 @@ impl Run<'_> {
         }
     }
 
+    /// A pin changes, which is seen before the status is read, and read.
+    fn glance(&mut self) {
+        let [dsr, dcd, cts] = self.lent.view().pins;
+        self.call(Call::Pins([1 - dsr, dcd, cts]));
+        for call in [Call::Peek, Call::Peek, Call::Read(1), Call::Peek] {
+            self.call(call);
+        }
+    }
+
     /// Receive off and on again with no tick between; RHR gives its character
     /// again.
     fn blink(&mut self) {
@@ -229,6 +329,21 @@ impl Run<'_> {
         self.call(Call::Write(3, 37));
         self.call(Call::Read(0));
     }
+}
+
+/// The bytes of a device just reset, its inputs high, with one that is out of
+/// range, as often as not just so.
+fn one_wrong_byte(draws: &mut Draws) -> [u8; DEVICE_BYTES] {
+    let mut bytes = [0; DEVICE_BYTES];
+    bytes[9..=11].fill(1);
+    let places: Vec<(usize, u8)> = LEAST_OUT_OF_RANGE
+        .iter()
+        .flat_map(|&(first, last, least)| (first..=last).map(move |place| (place, least)))
+        .collect();
+    let (place, least) = draws.of(&places);
+    let most = draws.of(&[least, 255]);
+    bytes[place] = draws.between(least.into(), most.into()) as u8;
+    bytes
 }
 
 /// A piece of a recording: mark, a good frame, a frame of the other parity, a
