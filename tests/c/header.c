@@ -244,6 +244,80 @@ static void beginnings(void) {
     holds(status(&zeroed) == (INS2651_STATUS_DSR | INS2651_STATUS_DCD), "a device of zeros is in range, its pins low");
 }
 
+/* == both ticks in one call, and the looks == */
+
+/* Five bits, odd parity, a tick a bit; it has heard its mark, and has a character to send. */
+static ins2651 about_to_send(uint8_t character) {
+    ins2651 chip = set_up(INS2651_MODE1(5, INS2651_PARITY_ODD, INS2651_STOP_1, 1), INS2651_COMMAND_TRANSMIT | INS2651_COMMAND_RECEIVE);
+    hears(&chip, "1");
+    ins2651_write(&chip, INS2651_DATA, character);
+    return chip;
+}
+
+static void tick_is_both_ticks(void) {
+    ins2651 chip = about_to_send(21);
+    ins2651 other = chip;
+    for (const char *level = "01000001" "01000000" "111"; *level; level++) {
+        holds(ins2651_receive(&other, *level == '1') == INS2651_DONE, "a level that is received");
+        uint16_t sent = ins2651_transmit(&other);
+        uint16_t answer = ins2651_tick(&chip, *level == '1');
+        holds(INS2651_REFUSAL(answer) == INS2651_DONE && INS2651_VALUE(answer) == sent, "ins2651_tick answers the level sent");
+        holds(same(&chip, &other), "ins2651_tick is ins2651_receive, then ins2651_transmit");
+    }
+    holds(chip.flags.framing == 1 && chip.flags.overrun == 1, "ins2651_tick hears");
+}
+
+static void refused_ticks(void) {
+    ins2651 chip = about_to_send(21);
+    ins2651 wrong;
+    memset(&wrong, 0xAA, sizeof wrong);
+    ins2651 before = chip, given = wrong;
+    for (int level = 2; level <= 255; level++) {
+        uint16_t answer = ins2651_tick(&chip, (uint8_t)level);
+        holds(INS2651_REFUSAL(answer) == INS2651_NO_SUCH_LEVEL && INS2651_VALUE(answer) == 0, "what a refused ins2651_tick answers");
+        holds(ins2651_tick(&wrong, (uint8_t)level) == answer, "what it answers for a device out of range");
+    }
+    holds(same(&chip, &before) && same(&wrong, &given), "a refused ins2651_tick does neither tick");
+}
+
+static void joined_tick(ins2651 *a, ins2651 *b) {
+    uint16_t from_a = ins2651_transmit(a), from_b = ins2651_transmit(b);
+    ins2651_receive(a, (uint8_t)from_b);
+    ins2651_receive(b, (uint8_t)from_a);
+}
+
+/* After one transmit tick of each, n rounds with each other's levels are n joined ticks and one more transmit tick of each. */
+static void rounds_are_joined_ticks(void) {
+    ins2651 a = about_to_send(21), b = about_to_send(10), c = a, d = b;
+    uint16_t from_a = ins2651_transmit(&a), from_b = ins2651_transmit(&b);
+    for (int n = 0; n <= 40; n++) {
+        ins2651 e = c, f = d;
+        holds(ins2651_transmit(&e) == from_a && ins2651_transmit(&f) == from_b, "the levels after rounds of ins2651_tick");
+        holds(same(&a, &e) && same(&b, &f), "rounds of ins2651_tick are joined ticks");
+        uint16_t next = ins2651_tick(&a, (uint8_t)from_b);
+        from_b = ins2651_tick(&b, (uint8_t)from_a);
+        from_a = next;
+        joined_tick(&c, &d);
+    }
+    holds(INS2651_VALUE(ins2651_read(&a, INS2651_DATA)) == 10 && INS2651_VALUE(ins2651_read(&b, INS2651_DATA)) == 21, "both characters");
+}
+
+static void looks(void) {
+    ins2651 chip = INS2651_RESET;
+    ins2651_pins(&chip, 0, 1, 1);
+    ins2651 before = chip;
+    int seen = INS2651_STATUS_DSR | INS2651_STATUS_TXEMT;
+    holds(ins2651_peek(&chip) == seen && ins2651_peek(&chip) == seen, "ins2651_peek answers the status");
+    holds(ins2651_in_range(&chip) == 1 && same(&chip, &before), "ins2651_peek and ins2651_in_range leave the device, its change too");
+    holds(status(&chip) == seen && ins2651_peek(&chip) == INS2651_STATUS_DSR, "a status read clears the change, and ins2651_peek shows it");
+    memset(&chip, 0xAA, sizeof chip);
+    before = chip;
+    holds(ins2651_peek(&chip) == 0 && ins2651_in_range(&chip) == 0, "the looks at a device out of range");
+    holds(same(&chip, &before), "the looks leave a device out of range as it is");
+    memset(&chip, 0, sizeof chip);
+    holds(ins2651_in_range(&chip) == 1, "a device of zeros is in range");
+}
+
 int main(void) {
     mode1_is_the_chips();
     other_parts_are_refused();
@@ -255,5 +329,9 @@ int main(void) {
     no_bit_has_two_names();
     refusal_names();
     beginnings();
+    tick_is_both_ticks();
+    refused_ticks();
+    rounds_are_joined_ticks();
+    looks();
     return failures != 0;
 }
