@@ -1116,9 +1116,7 @@ fn a_refused_tick_does_nothing() {
 #[test]
 fn a_peek_is_a_status_read_that_leaves_the_mark() {
     for chip in busy_chips() {
-        let mut looked = chip.clone();
-        assert_eq!(looked.peek(), looked.clone().read(1).1);
-        assert_eq!(looked, chip);
+        assert_eq!(chip.peek(), chip.clone().read(1).1);
     }
     let mut chip = set_up(77, 0, 0);
     assert_eq!([chip.peek(), chip.peek()], [PINS + MARK; 2]);
