@@ -130,11 +130,11 @@ impl fmt::Display for Line {
     }
 }
 
-fn hexadecimal(bytes: &[u8]) -> String {
+pub fn hexadecimal(bytes: &[u8]) -> String {
     bytes.iter().map(|byte| format!("{byte:02x}")).collect()
 }
 
-fn without_padding(mut bytes: [u8; DEVICE_BYTES]) -> [u8; DEVICE_BYTES] {
+pub fn without_padding(mut bytes: [u8; DEVICE_BYTES]) -> [u8; DEVICE_BYTES] {
     PADDING.iter().for_each(|&place| bytes[place] = 0);
     bytes
 }

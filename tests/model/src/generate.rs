@@ -1,11 +1,12 @@
 //! The random sessions, each with a fixed seed: its kind and its index. The runs
-//! of calls are in `calls`.
+//! of calls are in `calls`, the devices in `ranges`.
 
 mod alike;
 pub mod calls;
 mod hostile;
 mod malformed;
 mod one_way;
+pub mod ranges;
 mod realistic;
 mod set_up;
 mod ways;

@@ -4,11 +4,11 @@
 //! It covers the sections "Sending, by transmit ticks" and "Receiving, by
 //! receive ticks" of document 01, for a receiver that is on throughout
 //! and keeps one mode. The module `chip` has the whole chip, `session` the
-//! session program and `calls` the text of the C driver. The other modules are
-//! the random tests from outside: `generate` draws sessions and runs of calls,
-//! `program` runs the proved program, `delivery` holds an answer to demand 3
-//! without the chip, `reach` counts what was reached and `shorten` cuts a
-//! difference down.
+//! session program, `calls` the text of the C driver and `ranges` the ranges of
+//! the device that it lends. The other modules are the random tests from outside:
+//! `generate` draws sessions, runs of calls and devices, `program` runs the
+//! proved program, `delivery` holds an answer to demand 3 without the chip,
+//! `reach` counts what was reached and `shorten` cuts a difference down.
 
 pub mod calls;
 pub mod chip;
@@ -16,6 +16,7 @@ pub mod delivery;
 pub mod draw;
 pub mod generate;
 pub mod program;
+pub mod ranges;
 pub mod reach;
 pub mod session;
 pub mod shorten;

@@ -1,0 +1,86 @@
+//! Random devices against the C driver, whose command stands behind `--`: it
+//! tells whether they are in range as the model does, and leaves their bytes.
+
+use model::calls::{hexadecimal, without_padding, DEVICE_BYTES};
+use model::generate::ranges::{device, draws, spoilt};
+use model::program::Program;
+use model::ranges::in_range;
+use std::process::ExitCode;
+
+const RUNS: u32 = 16;
+const DEVICES: u32 = 1500;
+/// The bytes that may have any number: mode 2, SYN1, SYN2, DLE, RHR, padding.
+const ANY: [usize; 8] = [1, 4, 5, 6, 23, 35, 37, 43];
+
+/// What was reached: devices in range, and those that one byte put out of range.
+struct Reach {
+    inside: u32,
+    out_by: [u32; DEVICE_BYTES],
+}
+
+/// The devices of a run, each one in range and then spoilt.
+fn run(index: u32, reach: &mut Reach) -> Vec<[u8; DEVICE_BYTES]> {
+    let draws = &mut draws(index);
+    let mut all = Vec::new();
+    for _ in 0..DEVICES {
+        let whole = device(draws);
+        let (place, other) = spoilt(draws, &whole);
+        assert!(in_range(&whole), "{}", hexadecimal(&whole));
+        reach.inside += 1 + u32::from(in_range(&other));
+        reach.out_by[place] += u32::from(!in_range(&other));
+        all.extend([whole, other]);
+    }
+    all
+}
+
+/// How the driver's answers differ from the model's, if they do.
+fn compare(driver: &Program, devices: &[[u8; DEVICE_BYTES]]) -> Result<(), String> {
+    let ask =
+        |bytes: &[u8; DEVICE_BYTES]| format!("device {}\nin_range\nbytes\n", hexadecimal(bytes));
+    let tell = |bytes: &[u8; DEVICE_BYTES]| {
+        let shown = hexadecimal(&without_padding(*bytes));
+        format!("0\n{}\n{shown}\n", u8::from(in_range(bytes)))
+    };
+    let input: String = devices.iter().map(ask).collect();
+    let output = driver.answer(input.as_bytes())?;
+    let output = String::from_utf8_lossy(&output);
+    let mut answers = output.split_inclusive('\n');
+    for bytes in devices {
+        let answer: String = answers.by_ref().take(3).collect();
+        if answer != tell(bytes) {
+            return Err(format!("{}the driver:\n{answer}", ask(bytes)));
+        }
+    }
+    Ok(())
+}
+
+fn main() -> ExitCode {
+    let driver = match Program::of_arguments() {
+        Ok(driver) => driver,
+        Err(usage) => {
+            eprintln!("random_ranges: {usage}");
+            return ExitCode::from(2);
+        }
+    };
+    let mut reach = Reach {
+        inside: 0,
+        out_by: [0; DEVICE_BYTES],
+    };
+    for index in 0..RUNS {
+        if let Err(why) = compare(&driver, &run(index, &mut reach)) {
+            println!(
+                "random_ranges: the driver and the model differ in the run of seed {index}\n{why}"
+            );
+            return ExitCode::FAILURE;
+        }
+    }
+    let (inside, out_by) = (reach.inside, reach.out_by);
+    let out: u32 = out_by.iter().sum();
+    println!("random_ranges: {inside} devices in range and {out} out of it by one byte are told");
+    let missing = |place: &usize| out_by[*place] == 0 && !ANY.contains(place);
+    if let Some(place) = (0..DEVICE_BYTES).find(missing) {
+        println!("random_ranges: byte {place} put no device out of range");
+        return ExitCode::FAILURE;
+    }
+    ExitCode::SUCCESS
+}

@@ -1,0 +1,108 @@
+//! Random devices by their bytes (docs/RANGES.md), in range and with one byte
+//! spoilt.
+
+use super::any_mode;
+use crate::calls::DEVICE_BYTES;
+use crate::chip::decode;
+use crate::draw::Draws;
+use crate::ranges::{bits_before, ticks_to};
+use crate::Format;
+
+/// The kind in the seeds, behind that of the calls.
+const KIND: u32 = 5;
+/// Numbers at the edges of fields.
+const EDGES: [u8; 18] = [
+    0, 1, 2, 3, 4, 5, 8, 9, 15, 16, 24, 32, 63, 64, 65, 96, 128, 255,
+];
+
+/// The draws of a run of devices.
+pub fn draws(index: u32) -> Draws {
+    Draws::new(KIND, index)
+}
+
+/// A number below `n`, as often as not the first or the last.
+fn at_edge(draws: &mut Draws, n: u32) -> u32 {
+    let any = draws.below(n);
+    draws.of(&[0, n - 1, any, any])
+}
+
+fn level(draws: &mut Draws) -> u8 {
+    draws.below(2) as u8
+}
+
+/// A device in range.
+pub fn device(draws: &mut Draws) -> [u8; DEVICE_BYTES] {
+    let mut bytes = [(); DEVICE_BYTES].map(|()| level(draws));
+    for any in [1, 4, 5, 6, 35] {
+        bytes[any] = draws.byte();
+    }
+    bytes[0] = bytes[2] * any_mode(draws);
+    bytes[3] = draws.byte() & 0b0010_1111;
+    bytes[8] = draws.below(3) as u8;
+    bytes[12..23].copy_from_slice(&sender(draws));
+    bytes[24..35].copy_from_slice(&receiver(draws));
+    bytes
+}
+
+fn format(draws: &mut Draws) -> (Format, [u8; 5]) {
+    let mode1 = any_mode(draws);
+    let format = decode(mode1, draws.one_in(4));
+    let numbers = [
+        format.factor,
+        format.length,
+        format.parity.into(),
+        format.even.into(),
+        format.stop,
+    ];
+    (format, numbers.map(|number| number as u8))
+}
+
+fn sender(draws: &mut Draws) -> [u8; 11] {
+    let mut bytes = [0; 11];
+    bytes[9] = level(draws);
+    bytes[8] = bytes[9] * draws.byte();
+    if draws.one_in(2) {
+        bytes[10] = at_edge(draws, 65) as u8;
+        return bytes;
+    }
+    let (format, numbers) = format(draws);
+    let place = 1 + at_edge(draws, format.frame_length() - 1);
+    bytes[0] = draws.byte();
+    bytes[1..6].copy_from_slice(&numbers);
+    bytes[6..8].copy_from_slice(&(place as u16).to_le_bytes());
+    bytes
+}
+
+/// Its state and its format.
+fn receiver(draws: &mut Draws) -> [u8; 11] {
+    let mut bytes = [0; 11];
+    bytes[0] = draws.of(&[0, 1, 2, 2]);
+    if bytes[0] < 2 {
+        return bytes;
+    }
+    let (format, numbers) = format(draws);
+    let stop_look = format.length + u32::from(format.parity) + 1;
+    // With a factor of 1 there is no look but the first at the start.
+    let first = u32::from(format.half() == 0);
+    let look = first + at_edge(draws, stop_look + 1 - first);
+    bytes[1] = at_edge(draws, ticks_to(&format, look)) as u8;
+    bytes[2] = at_edge(draws, 1 << bits_before(&format, look)) as u8;
+    bytes[3] = u8::from(format.parity && look == stop_look) * level(draws);
+    bytes[4..6].copy_from_slice(&(look as u16).to_le_bytes());
+    bytes[6..11].copy_from_slice(&numbers);
+    bytes
+}
+
+/// The device with another number in one byte, and which byte it is: a number at
+/// the edge of some field, one more or one less, or any.
+pub fn spoilt(draws: &mut Draws, device: &[u8; DEVICE_BYTES]) -> (usize, [u8; DEVICE_BYTES]) {
+    let mut bytes = *device;
+    let place = draws.below(DEVICE_BYTES as u32) as usize;
+    bytes[place] = match draws.below(4) {
+        0 => draws.of(&EDGES),
+        1 => bytes[place].wrapping_add(1),
+        2 => bytes[place].wrapping_sub(1),
+        _ => draws.byte(),
+    };
+    (place, bytes)
+}

@@ -1,0 +1,91 @@
+//! The ranges of a lent device's bytes (docs/RANGES.md), at some of their edges.
+
+use model::calls::DEVICE_BYTES;
+use model::generate::ranges::{device, draws};
+use model::ranges::in_range;
+
+type Bytes = [u8; DEVICE_BYTES];
+
+/// A device of zeros, its pins low, with some bytes set.
+fn with(set: &[(usize, &[u8])]) -> Bytes {
+    let mut bytes = [0; DEVICE_BYTES];
+    for &(place, numbers) in set {
+        bytes[place..place + numbers.len()].copy_from_slice(numbers);
+    }
+    bytes
+}
+
+/// A frame of 8 bits, even, 2 stop bits and a factor of 64: L is 768.
+fn frame(place: u16) -> Bytes {
+    with(&[
+        (12, &[255, 64, 8, 1, 1, 128]),
+        (18, &place.to_le_bytes()),
+        (20, &[9, 1]),
+    ])
+}
+
+/// A character of 5 bits, odd, 1 stop bit and this factor, before a look.
+fn character(factor: u8, look: u8, countdown: u8, value: u8, wrong: u8) -> Bytes {
+    with(&[
+        (24, &[2, countdown, value, wrong, look, 0]),
+        (30, &[factor, 5, 1, 0, factor]),
+    ])
+}
+
+#[test]
+fn at_rest() {
+    assert!(in_range(&with(&[])));
+    assert!(in_range(&with(&[(9, &[1, 1, 1])])));
+    assert!(!in_range(&[255; DEVICE_BYTES]));
+    // Padding is no field.
+    assert!(in_range(&with(&[(23, &[255]), (37, &[255]), (43, &[255])])));
+    // The guard, and a character that waits or does not.
+    assert!(in_range(&with(&[(22, &[64])])));
+    assert!(!in_range(&with(&[(22, &[65])])));
+    assert!(in_range(&with(&[(20, &[7, 1])])));
+    assert!(!in_range(&with(&[(20, &[7, 0])])));
+}
+
+#[test]
+fn mode_1_and_the_command() {
+    for value in 0..=255 {
+        let accepted = value & 3 != 0 && value >> 6 != 0;
+        assert_eq!(in_range(&with(&[(0, &[value, 0, 1])])), accepted);
+        assert_eq!(in_range(&with(&[(0, &[value, 0, 0])])), value == 0);
+        assert_eq!(in_range(&with(&[(3, &[value])])), value & 208 == 0);
+    }
+}
+
+#[test]
+fn a_frame_under_way() {
+    assert!(in_range(&frame(1)) && in_range(&frame(767)));
+    assert!(!in_range(&frame(0)) && !in_range(&frame(768)));
+    let mut guarded = frame(1);
+    guarded[22] = 1;
+    assert!(!in_range(&guarded));
+}
+
+#[test]
+fn a_character_under_way() {
+    // The start is looked at again after half a bit, and not with a factor of 1.
+    assert!(in_range(&character(16, 0, 7, 0, 0)));
+    assert!(!in_range(&character(16, 0, 8, 0, 0)));
+    assert!(in_range(&character(16, 1, 15, 0, 0)));
+    assert!(!in_range(&character(16, 1, 16, 0, 0)));
+    assert!(!in_range(&character(1, 0, 0, 0, 0)));
+    assert!(in_range(&character(1, 1, 0, 0, 0)));
+    // The bits taken, then the parity and the stop.
+    assert!(!in_range(&character(16, 1, 0, 1, 0)));
+    assert!(in_range(&character(16, 2, 0, 1, 0)));
+    assert!(!in_range(&character(16, 2, 0, 2, 0)));
+    assert!(in_range(&character(16, 7, 0, 31, 1)));
+    assert!(!in_range(&character(16, 7, 0, 32, 0)));
+    assert!(!in_range(&character(16, 6, 0, 31, 1)));
+    assert!(!in_range(&character(16, 8, 0, 31, 0)));
+}
+
+#[test]
+fn drawn_devices_are_in_range() {
+    let draws = &mut draws(0);
+    assert!((0..20000).all(|_| in_range(&device(draws))));
+}
