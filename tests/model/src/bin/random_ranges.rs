@@ -7,8 +7,8 @@ use model::program::Program;
 use model::ranges::in_range;
 use std::process::ExitCode;
 
-const RUNS: u32 = 16;
-const DEVICES: u32 = 1500;
+const RUNS: u32 = 8;
+const DEVICES: u32 = 1000;
 /// The bytes that may have any number: mode 2, SYN1, SYN2, DLE, RHR, padding.
 const ANY: [usize; 8] = [1, 4, 5, 6, 23, 35, 37, 43];
 
