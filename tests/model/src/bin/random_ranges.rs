@@ -7,8 +7,10 @@ use model::program::Program;
 use model::ranges::in_range;
 use std::process::ExitCode;
 
-const RUNS: u32 = 8;
-const DEVICES: u32 = 1000;
+const RUNS: u32 = 16;
+const DEVICES: u32 = 1500;
+/// The devices of which one is shown after the look, since that takes long.
+const SHOWN: usize = 9;
 /// The bytes that may have any number: mode 2, SYN1, SYN2, DLE, RHR, padding.
 const ANY: [usize; 8] = [1, 4, 5, 6, 23, 35, 37, 43];
 
@@ -33,22 +35,29 @@ fn run(index: u32, reach: &mut Reach) -> Vec<[u8; DEVICE_BYTES]> {
     all
 }
 
+/// The lines to the driver about a device, and its answers.
+fn lines(index: usize, bytes: &[u8; DEVICE_BYTES]) -> (String, String) {
+    let mut ask = format!("device {}\nin_range\n", hexadecimal(bytes));
+    let mut tell = format!("0\n{}\n", u8::from(in_range(bytes)));
+    if index % SHOWN == 0 {
+        ask += "bytes\n";
+        tell += &format!("{}\n", hexadecimal(&without_padding(*bytes)));
+    }
+    (ask, tell)
+}
+
 /// How the driver's answers differ from the model's, if they do.
 fn compare(driver: &Program, devices: &[[u8; DEVICE_BYTES]]) -> Result<(), String> {
-    let ask =
-        |bytes: &[u8; DEVICE_BYTES]| format!("device {}\nin_range\nbytes\n", hexadecimal(bytes));
-    let tell = |bytes: &[u8; DEVICE_BYTES]| {
-        let shown = hexadecimal(&without_padding(*bytes));
-        format!("0\n{}\n{shown}\n", u8::from(in_range(bytes)))
-    };
-    let input: String = devices.iter().map(ask).collect();
+    let all = devices.iter().enumerate();
+    let all: Vec<(String, String)> = all.map(|(index, bytes)| lines(index, bytes)).collect();
+    let input: String = all.iter().map(|(ask, _)| ask.as_str()).collect();
     let output = driver.answer(input.as_bytes())?;
     let output = String::from_utf8_lossy(&output);
     let mut answers = output.split_inclusive('\n');
-    for bytes in devices {
-        let answer: String = answers.by_ref().take(3).collect();
-        if answer != tell(bytes) {
-            return Err(format!("{}the driver:\n{answer}", ask(bytes)));
+    for (ask, tell) in &all {
+        let answer: String = answers.by_ref().take(tell.lines().count()).collect();
+        if answer != *tell {
+            return Err(format!("{ask}the driver:\n{answer}"));
         }
     }
     Ok(())
