@@ -55,6 +55,15 @@ spoke-at p = p .counts ∙ ap length (p .said)
 spoke-buffer : {l m t : List ℕ} {r : ℕ} → Spoke l t m r → m ≡ t ++ drop (length t) l
 spoke-buffer {l} {m} {t} {r} p = sym (take-append-drop r m) ∙ ap₂ _++_ (p .said) (p .rest) ∙ ap (λ (k : ℕ). t ++ drop k l) (spoke-at p)
 
+-- such a text was stored at 0, where the buffer has room for it
+pub spoke-put : {l m t : List ℕ} {r : ℕ} → Spoke l t m r → length t ≤ length l → Put l 0 t m r
+spoke-put {l} {t = t} p h =
+    let z : 0 + length t ≡ length t = omega arith in
+    record {
+      stored = spoke-buffer p ∙ sym (sets-eq t l 0 (omega arith) ∙ ap (λ (k : ℕ). t ++ drop k l) z);
+      next = omega (arith, spoke-at p);
+    }
+
 -- two outcomes for the same buffer before and the same text are one
 pub spoke-one : {before text a b : List ℕ} {r s : ℕ} → Spoke before text a r → Spoke before text b s → (r ≡ s) × (a ≡ b)
 spoke-one p q = (spoke-at p ∙ sym (spoke-at q), spoke-buffer p ∙ sym (spoke-buffer q))

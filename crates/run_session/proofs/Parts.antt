@@ -13,7 +13,7 @@ use lib.Seq.{length-take-le, take-all, take-take, take-add}
 use Rattle.line_rules.proofs.Choice.{each, either}
 use Rattle.rows.specs.Text.{countsText}
 use Rattle.session_rules.specs.declared.Session.{Session}
-use Rattle.session_rules.specs.Bytes.{goesOn, after, said, afterAll, taken, lastSaid}
+use Rattle.session_rules.specs.Bytes.{goesOn, after, said, afterAll, lastSaid}
 use Rattle.session_rules.proofs.Cutting.{stopped-after}
 use Rattle.session_rules.proofs.Feeding.{after-append}
 use Rattle.run_session.specs.declared.Went.{Went}
@@ -40,10 +40,6 @@ module _ (piece : List ℕ) (from : ℕ) (h : from ≤ length piece) where
   pub parted : take from piece ++ left piece from ≡ piece
   parted =
       ap (λ (l : List ℕ). take from piece ++ l) (take-all (length piece - from) (drop from piece) (omega (arith, length-drop from piece))) ∙ take-append-drop from piece
-
--- one byte finds room
-pub newline-fed : (s : Session) {room used : ℕ} → 32 ≤ room → used ≡ taken s (code "\n" ∷ []) room → afterAll s (take used (code "\n" ∷ [])) ≡ after s (code "\n")
-newline-fed s {room} h e = rw (e, le-ltb room 32 h)
 
 -- == the rest stays unread ==
 

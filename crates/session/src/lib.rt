@@ -16,7 +16,7 @@ use session_rules::Reply;
 use session_rules::Said;
 use session_rules::Session;
 
-// The session after a byte, and where the text ends.
+// The session after a line, and where the text ends.
 pub struct Turn {
     pub session: Session,
     pub at: usize,
@@ -175,17 +175,6 @@ fn longer(n: u8) -> u8
     if n < 65 { n + 1 } else { 65 }
 }
 
-// A byte of the line under way.
-fn pushed(s: Session, b: u8) -> Session
-    ensures { λ r. ⌜ r ≡ Bytes.pushed s b ⌝ }
-{
-    let mut next = s;
-    let f = fields::push(s.fields, b);
-    next.length = longer(s.length);
-    next.fields = f;
-    next
-}
-
 // The reply to the line under way.
 fn held_reply(s: Session) -> Reply
     ensures { λ r. ⌜ r ≡ Bytes.heldReply s ⌝ }
@@ -237,25 +226,8 @@ fn ended(s: Session, out: &mut [u8], at: usize) -> Turn
     }
 }
 
-// One byte of the input. After the last line that is taken nothing is looked at.
-fn byte(s: Session, b: u8, out: &mut [u8], at: usize) -> Turn
-    requires { ⌜ at + 32 ≤ length (now out) ⌝ }
-    ensures { λ r. ⌜ (r .session ≡ Bytes.after s b) × Put (now (out .entry)) at (Bytes.said s b) (now (out .exit)) (r .at) ⌝ }
-{
-    if s.lines < 65535 {
-        if b == b'\n' {
-            return ended(s, out, at);
-        }
-        return Turn {
-            session: pushed(s, b),
-            at,
-        };
-    }
-    Turn { session: s, at }
-}
-
-// Takes the bytes of a piece of the input, in turn, while 32 bytes are left for the text of each. The text stands at the
-// start of the buffer.
+// Takes the bytes of a piece of the input, in turn, while 32 bytes are left for the text of each. After the last line that
+// is taken nothing is looked at. The text stands at the start of the buffer.
 pub fn feed(s: Session, piece: &[u8], out: &mut [u8]) -> Fed
     ensures { λ r. ⌜ r .used ≡ Bytes.taken s (now (piece .entry)) (length (now (out .entry))) ⌝ }
     ensures { λ r. ⌜ r .session ≡ Bytes.afterAll s (take (r .used) (now (piece .entry))) ⌝ }
@@ -268,10 +240,20 @@ pub fn feed(s: Session, piece: &[u8], out: &mut [u8]) -> Fed
         if out.len() - at < 32 {
             return Fed { session, used, at };
         }
-        let t = byte(session, piece[used], out, at);
-        let next = t.session;
-        session = next;
-        at = t.at;
+        let b = piece[used];
+        if session.lines < 65535 {
+            if b == b'\n' {
+                let t = ended(session, out, at);
+                let next = t.session;
+                session = next;
+                at = t.at;
+            } else {
+                // in place: a session by value for each byte would take most of a line's time
+                let fields = fields::push(session.fields, b);
+                session.length = longer(session.length);
+                session.fields = fields;
+            }
+        }
         used += 1;
     }
     Fed { session, used, at }
@@ -289,7 +271,7 @@ fn finish_in(s: Session, out: &mut [u8]) -> usize
     ensures { λ r. ⌜ Spoke (now (out .entry)) (Bytes.lastSaid s) (now (out .exit)) r ⌝ }
 {
     if 0 < s.length {
-        let t = byte(s, b'\n', out, 0);
+        let t = feed(s, b"\n", out);
         let q = t.session;
         let at = t.at;
         return rows::write(out, at, Row::Counts(q.lines, q.refusals));

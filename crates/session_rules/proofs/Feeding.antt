@@ -4,10 +4,11 @@ use mathlib.Core.Path.{_≡_, refl, sym, _∙_, ap, subst}
 use mathlib.Core.List.{List, [], _∷_, _++_, append-assoc, append-nil}
 use mathlib.Core.Bool.{Bool, true, false}
 use Prim.Native.Nat.{ℕ, suc, _+_, _-_, _≤_, _<_}
+use Prim.Native.Char.{code}
 use native.Mathlib.Omega.{arith}
 use native.Mathlib.Nat.{add-zero}
 use native.Mathlib.Numerals.{add-one}
-use borrow.Author.Tests.{lt-ltb, le-ltb}
+use borrow.Author.Tests.{lt-ltb, le-ltb, eq-eqb, ne-eqb}
 use lib.Dec.{eqb}
 use lib.ListN.{length, take, drop, getD, drop-of-length-le}
 use lib.Seq.{take-suc, drop-cons}
@@ -16,9 +17,9 @@ use Rattle.session_rules.specs.declared.Session.{Session}
 use Rattle.rows.specs.declared.Row.the-variants.{Counts}
 use Rattle.rows.specs.Text.{Put, Spoke, rowText, countsText}
 use Rattle.session_rules.specs.Calls.{rowOf, saidText}
-use Rattle.session_rules.specs.Bytes.{goesOn, heldReply, after, said, afterAll, saidAll, taken}
+use Rattle.session_rules.specs.Bytes.{goesOn, pushed, heldReply, ended, after, said, afterAll, saidAll, taken}
 use Rattle.rows.proofs.Decimals.{row-short}
-use Rattle.rows.proofs.Puts.{behind, none-put, put-length, spoke, spoke-one}
+use Rattle.rows.proofs.Puts.{behind, none-put, put-length, spoke, spoke-put, spoke-one}
 
 -- == how long a text may be ==
 
@@ -85,13 +86,21 @@ feed-one {s} {piece = piece} {out₀ = out₀} {b = b} {j = j} p q =
     let w = spoke-one (p .text) (subst (λ (k : ℕ). Spoke out₀ (saidAll s (take k piece)) b j) (sym e) (q .text)) in
     (e, p .state ∙ ap (λ (k : ℕ). afterAll s (take k piece)) e ∙ sym (q .state), w .0, w .1)
 
+-- a piece of one byte that finds room
+pub one-byte : {s t : Session} {b : ℕ} {out₀ out : List ℕ} {used at : ℕ} → Done s (b ∷ []) out₀ out t used at → 32 ≤ length out₀ → (t ≡ after s b) × Put out₀ 0 (said s b) out at
+one-byte {s} {t} {b} {out₀} {out} {used} {at} d room =
+    let one : take used (b ∷ []) ≡ b ∷ [] = rw (d .used-is, le-ltb (length out₀) 32 room) in
+    let text : Spoke out₀ (said s b) out at = rw (one, append-nil) at (d .text) in
+    (d .state ∙ ap (λ (l : List ℕ). afterAll s l) one, spoke-put text (omega (arith, said-short s b, room)))
+
 module _ {s t : Session} {piece out₀ out : List ℕ} {used at : ℕ} (g : Going s piece out₀ out t used at) where
-  -- one byte more
-  pub goes-on :
-      {u : Session} {out′ : List ℕ} {at′ : ℕ} → used < length piece → 32 ≤ length out₀ - at → u ≡ after t (getD piece used 0)
+  -- one byte more ..
+  goes-on :
+      {u : Session} {out′ : List ℕ} {at′ : ℕ} → used < length piece → 32 ≤ length out - at → u ≡ after t (getD piece used 0)
       → Put out at (said t (getD piece used 0)) out′ at′ → Going s piece out₀ out′ u (used + 1) at′
-  goes-on {u} {out′} {at′} h room e p =
+  goes-on {u} {out′} {at′} h free e p =
       let b = getD piece used 0 in
+      let room : 32 ≤ length out₀ - at = omega (arith, free, g .same) in
       let n : at′ ≡ at + length (said t b) = p .next in
       let left : length out₀ - at - length (said t b) ≡ length out₀ - at′ = omega arith in
       let more : taken t (drop used piece) (length out₀ - at) ≡ suc (taken u (drop (suc used) piece) (length out₀ - at′)) =
@@ -107,6 +116,27 @@ module _ {s t : Session} {piece out₀ out : List ℕ} {used at : ℕ} (g : Goin
         same = put-length p ∙ g .same;
       })
 
+  -- .. by what it is: a newline while lines are taken
+  pub goes-ended :
+      {u : Session} {out′ : List ℕ} {at′ : ℕ} → used < length piece → 32 ≤ length out - at → t .lines < 65535 → getD piece used 0 ≡ code "\n"
+      → u ≡ ended t → Put out at (saidText (t .lines + 1) (heldReply t .said)) out′ at′ → Going s piece out₀ out′ u (used + 1) at′
+  unfolding after said
+  goes-ended h room on is e p = goes-on h room (rw (lt-ltb _ _ on, eq-eqb _ _ is) e) (rw (lt-ltb _ _ on, eq-eqb _ _ is) p)
+
+  -- .. another byte of the line under way
+  pub goes-pushed :
+      {u : Session} {out′ : List ℕ} {at′ : ℕ} → used < length piece → 32 ≤ length out - at → t .lines < 65535 → (getD piece used 0 ≡ code "\n" → ⊥)
+      → u ≡ pushed t (getD piece used 0) → out′ ≡ out → at′ ≡ at → Going s piece out₀ out′ u (used + 1) at′
+  unfolding after said
+  goes-pushed h room on not e o a = goes-on h room (rw (lt-ltb _ _ on, ne-eqb _ _ not) e) (rw (lt-ltb _ _ on, ne-eqb _ _ not, o, a) (none-put out at))
+
+  -- .. and any after the last line that is taken
+  pub goes-past :
+      {u : Session} {out′ : List ℕ} {at′ : ℕ} → used < length piece → 32 ≤ length out - at → 65535 ≤ t .lines
+      → u ≡ t → out′ ≡ out → at′ ≡ at → Going s piece out₀ out′ u (used + 1) at′
+  unfolding after said
+  goes-past h room off e o a = goes-on h room (rw (le-ltb _ _ off) e) (rw (le-ltb _ _ off, o, a) (none-put out at))
+
   done : taken t (drop used piece) (length out₀ - at) ≡ 0 → Done s piece out₀ out t used at
   done z =
       record {
@@ -116,8 +146,8 @@ module _ {s t : Session} {piece out₀ out : List ℕ} {used at : ℕ} (g : Goin
       }
 
   -- too little room is left
-  pub done-full : used < length piece → length out₀ - at < 32 → Done s piece out₀ out t used at
-  done-full h l = done (rw (drop-cons piece used 0 h, lt-ltb (length out₀ - at) 32 l))
+  pub done-full : used < length piece → length out - at < 32 → Done s piece out₀ out t used at
+  done-full h l = done (rw (drop-cons piece used 0 h, ← g .same, lt-ltb (length out - at) 32 l))
 
   -- the piece is at its end
   pub done-all : length piece ≤ used → Done s piece out₀ out t used at
