@@ -33,7 +33,7 @@ loop-again c =
     ⊎-elim
     (λ w. goes-ended g more room (w .0 .taken) (w .1 .taken) (w .8 ∙ w .3 .ensures .0) (rw (w .7, w .9) (w .3 .ensures .1)))
     (⊎-elim
-    (λ w. goes-pushed g more room (w .0 .taken) (w .1 .left) (w .5 ∙ rw (w .3 .ensures, w .2 .ensures)) (w .4) (w .6))
+    (λ w. goes-pushed g more room (w .0 .taken) (w .1 .left) (w .5 ∙ rw (← w .3 .ensures, ← w .2 .ensures)) (w .4) (w .6))
     (λ w. goes-past g more room (w .0 .left) (w .2) (w .1) (w .3)))
     (c .if2 .came)
 
