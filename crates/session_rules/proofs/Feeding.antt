@@ -94,48 +94,42 @@ one-byte {s} {t} {b} {out₀} {out} {used} {at} d room =
     (d .state ∙ ap (λ (l : List ℕ). afterAll s l) one, spoke-put text (omega (arith, said-short s b, room)))
 
 module _ {s t : Session} {piece out₀ out : List ℕ} {used at : ℕ} (g : Going s piece out₀ out t used at) where
-  -- one byte more ..
-  goes-on :
-      {u : Session} {out′ : List ℕ} {at′ : ℕ} → used < length piece → 32 ≤ length out - at → u ≡ after t (getD piece used 0)
-      → Put out at (said t (getD piece used 0)) out′ at′ → Going s piece out₀ out′ u (used + 1) at′
-  goes-on {u} {out′} {at′} h free e p =
-      let b = getD piece used 0 in
-      let room : 32 ≤ length out₀ - at = omega (arith, free, g .same) in
-      let n : at′ ≡ at + length (said t b) = p .next in
-      let left : length out₀ - at - length (said t b) ≡ length out₀ - at′ = omega arith in
-      let more : taken t (drop used piece) (length out₀ - at) ≡ suc (taken u (drop (suc used) piece) (length out₀ - at′)) =
-      rw (drop-cons piece used 0 h, le-ltb (length out₀ - at) 32 room, left, e) in
-      let up : used + suc (taken u (drop (suc used) piece) (length out₀ - at′)) ≡ suc used + taken u (drop (suc used) piece) (length out₀ - at′) = omega arith in
-      rw add-one
-      (record {
-        state = rw (take-suc piece used 0 h, after-append) (e ∙ ap (λ (x : Session). after x b) (g .state));
-        text = rw (take-suc piece used 0 h, said-append, append-nil) (behind (g .text) (rw (g .state) at p));
-        rest = g .rest ∙ ap (λ (k : ℕ). used + k) more ∙ up;
-        some = omega arith;
-        within = omega (arith, said-short t b, g .within, n, room);
-        same = put-length p ∙ g .same;
-      })
+  -- one byte more: the session is u then, and the text stands in out′ up to at′
+  module _ {u : Session} {out′ : List ℕ} {at′ : ℕ} (h : used < length piece) (free : 32 ≤ length out - at) where
+    goes-on : u ≡ after t (getD piece used 0) → Put out at (said t (getD piece used 0)) out′ at′ → Going s piece out₀ out′ u (used + 1) at′
+    goes-on e p =
+        let b = getD piece used 0 in
+        let room : 32 ≤ length out₀ - at = omega (arith, free, g .same) in
+        let n : at′ ≡ at + length (said t b) = p .next in
+        let left : length out₀ - at - length (said t b) ≡ length out₀ - at′ = omega arith in
+        let more : taken t (drop used piece) (length out₀ - at) ≡ suc (taken u (drop (suc used) piece) (length out₀ - at′)) =
+        rw (drop-cons piece used 0 h, le-ltb (length out₀ - at) 32 room, left, e) in
+        let up : used + suc (taken u (drop (suc used) piece) (length out₀ - at′)) ≡ suc used + taken u (drop (suc used) piece) (length out₀ - at′) = omega arith in
+        rw add-one
+        (record {
+          state = rw (take-suc piece used 0 h, after-append) (e ∙ ap (λ (x : Session). after x b) (g .state));
+          text = rw (take-suc piece used 0 h, said-append, append-nil) (behind (g .text) (rw (g .state) at p));
+          rest = g .rest ∙ ap (λ (k : ℕ). used + k) more ∙ up;
+          some = omega (arith, h);
+          within = omega (arith, said-short t b, g .within, n, room);
+          same = put-length p ∙ g .same;
+        })
 
-  -- .. by what it is: a newline while lines are taken
-  pub goes-ended :
-      {u : Session} {out′ : List ℕ} {at′ : ℕ} → used < length piece → 32 ≤ length out - at → t .lines < 65535 → getD piece used 0 ≡ code "\n"
-      → u ≡ ended t → Put out at (saidText (t .lines + 1) (heldReply t .said)) out′ at′ → Going s piece out₀ out′ u (used + 1) at′
-  unfolding after said
-  goes-ended h room on is e p = goes-on h room (rw (lt-ltb _ _ on, eq-eqb _ _ is) e) (rw (lt-ltb _ _ on, eq-eqb _ _ is) p)
+    -- a newline ends the line under way
+    pub goes-ended :
+        t .lines < 65535 → getD piece used 0 ≡ code "\n" → u ≡ ended t → Put out at (saidText (t .lines + 1) (heldReply t .said)) out′ at′ → Going s piece out₀ out′ u (used + 1) at′
+    unfolding after said
+    goes-ended on is e p = goes-on (rw (lt-ltb _ _ on, eq-eqb _ _ is) e) (rw (lt-ltb _ _ on, eq-eqb _ _ is) p)
 
-  -- .. another byte of the line under way
-  pub goes-pushed :
-      {u : Session} {out′ : List ℕ} {at′ : ℕ} → used < length piece → 32 ≤ length out - at → t .lines < 65535 → (getD piece used 0 ≡ code "\n" → ⊥)
-      → u ≡ pushed t (getD piece used 0) → out′ ≡ out → at′ ≡ at → Going s piece out₀ out′ u (used + 1) at′
-  unfolding after said
-  goes-pushed h room on not e o a = goes-on h room (rw (lt-ltb _ _ on, ne-eqb _ _ not) e) (rw (lt-ltb _ _ on, ne-eqb _ _ not, o, a) (none-put out at))
+    -- another byte is of that line
+    pub goes-pushed : t .lines < 65535 → (getD piece used 0 ≡ code "\n" → ⊥) → u ≡ pushed t (getD piece used 0) → out′ ≡ out → at′ ≡ at → Going s piece out₀ out′ u (used + 1) at′
+    unfolding after said
+    goes-pushed on not e o a = goes-on (rw (lt-ltb _ _ on, ne-eqb _ _ not) e) (rw (lt-ltb _ _ on, ne-eqb _ _ not, o, a) (none-put out at))
 
-  -- .. and any after the last line that is taken
-  pub goes-past :
-      {u : Session} {out′ : List ℕ} {at′ : ℕ} → used < length piece → 32 ≤ length out - at → 65535 ≤ t .lines
-      → u ≡ t → out′ ≡ out → at′ ≡ at → Going s piece out₀ out′ u (used + 1) at′
-  unfolding after said
-  goes-past h room off e o a = goes-on h room (rw (le-ltb _ _ off) e) (rw (le-ltb _ _ off, o, a) (none-put out at))
+    -- after the last line that is taken none is looked at
+    pub goes-past : 65535 ≤ t .lines → u ≡ t → out′ ≡ out → at′ ≡ at → Going s piece out₀ out′ u (used + 1) at′
+    unfolding after said
+    goes-past off e o a = goes-on (rw (le-ltb _ _ off) e) (rw (le-ltb _ _ off, o, a) (none-put out at))
 
   done : taken t (drop used piece) (length out₀ - at) ≡ 0 → Done s piece out₀ out t used at
   done z =
