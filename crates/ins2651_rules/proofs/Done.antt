@@ -65,6 +65,3 @@ module _ (d : Device) (h : inRange d ≡ true) where
 
   pub does-receive : (x : ℕ) → levelRefusal x ≡ 0 → receive d x .device ≡ receiveTick d (on x)
   does-receive x n = ap (λ (o : Outcome). o .device) (done-receive d x n) ∙ ap (λ (e : Device). receiveTick e (on x)) (settled-is d h)
-
-  pub does-tick : (x : ℕ) → levelRefusal x ≡ 0 → tick d x ≡ sending (bothTicks d (on x))
-  does-tick x n = done-tick d x n ∙ ap (λ (e : Device). sending (bothTicks e (on x))) (settled-is d h)

@@ -11,7 +11,7 @@ use Rattle.ins2651_rules.proofs.Both.{tick-does-both}
 use Rattle.ins2651_ends.proofs.Calls.{is-level}
 use Rattle.joined_rules.specs.declared.Pair.{Pair}
 use Rattle.joined_rules.specs.Joining.{tick, ticks}
-use Rattle.joined_rules.specs.Rounds.{Answers, begun, round, rounds}
+use Rattle.joined_rules.specs.Rounds.{begun, round, rounds}
 
 -- what a device sends is a level
 sent-level : (d e : Device) → chip.tick (chip.transmit d .device) (chip.transmit e .level) ≡ chip.sending (chip.transmit (chip.receive (chip.transmit d .device) (chip.transmit e .level) .device))
