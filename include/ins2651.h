@@ -261,7 +261,7 @@ uint16_t ins2651_transmit(ins2651 *device);
 uint16_t ins2651_receive(ins2651 *device, uint8_t level);
 
 /* Does both ticks of a device: a receive tick with the line at a level, then a transmit tick; answers 256 times the refusal, plus the
- * level sent. A level that is refused does neither. It checks the device once, where ins2651_receive and ins2651_transmit do so twice.
+ * level sent; a level that is refused does neither tick, and the 0 beside its refusal is no level. It checks the device once, where ins2651_receive and ins2651_transmit do so twice.
  * After one ins2651_transmit of each of two devices, n rounds in which each is ticked with the level that the other sent last are n joined
  * ticks and one more transmit tick of each: examples/host/two_ticks.c. */
 uint16_t ins2651_tick(ins2651 *device, uint8_t level);
@@ -269,7 +269,8 @@ uint16_t ins2651_tick(ins2651 *device, uint8_t level);
 /* Answers the levels of the five outputs, by the bits named above; the device stays as it is. */
 uint16_t ins2651_outputs(ins2651 *device);
 
-/* Answers the status without reading the register: the mark of a change stays, and all of the device. For a debugger. */
+/* Answers the status without reading the register: the mark of a change stays, and all of the device. Out of range it is the status of one
+ * just reset, 0. For a debugger. */
 uint16_t ins2651_peek(ins2651 *device);
 
 /* Answers 1 where the device is in range (docs/RANGES.md), else 0; the device stays as it is. For a host that keeps devices in files: a

@@ -16,7 +16,7 @@ int main(void) {
     ins2651 b = INS2651_RESET;
     set_up(&a);
     set_up(&b);
-    /* One transmit tick of each comes first; then each round is a joined tick and the transmit ticks of the next one. */
+    /* One transmit tick of each comes first; then each round ends a joined tick and begins the next. */
     uint8_t level_a = (uint8_t)ins2651_transmit(&a);
     uint8_t level_b = (uint8_t)ins2651_transmit(&b);
     /* The transmit tick of this round is done: the frame begins with the next, one round later than with the four calls of

@@ -1,4 +1,4 @@
-// Many ticks at once where they only count: document 01, "Sending" and "Receiving", by joined ticks.
+// Many ticks at once where they only count, and ticks that change nothing: document 01, "Sending" and "Receiving".
 // Every call takes any number in any field and checks no range: `calm_rules` says what each answers, inside the range and outside.
 ghost use mathlib.Core.Path.{_≡_};
 ghost use Prim.Native.Nat.{_-_};

@@ -1,5 +1,5 @@
 -- Ticks that only count: document 01, "Sending, by transmit ticks" and "Receiving, by receive ticks". A frame holds each level for F ticks and a
--- receiver looks once in F, so that most ticks move a place or a countdown by one and nothing else; many of those can be done at once.
+-- receiver looks once in F, so that most ticks move a place or a countdown by one and nothing else; many of those can be done at once. And ticks that change nothing.
 -- Assumes nothing.
 use Prim.Native.Nat.{ℕ, suc, _+_, _-_, _%_}
 use mathlib.Core.Bool.{Bool, cond, not, _&&_}

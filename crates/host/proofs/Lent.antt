@@ -10,34 +10,29 @@ use mir.Val.{Val, vint, vptr}
 use base.Logic.{SProp, ent}
 use base.Fml.{GName, Lft, Share, flft}
 use prog.Wp.{Heap, Env, Calls, Loops, WpFn, Tables}
-use ghost.Atoms.{Atoms, sem}
-use types.Kit.{Given, Item, Go, ‵, _$_, _∵_, !, qed, by, move, drop, join, fsplit3, fjoin3, feqI, frame, done, use0}
+use ghost.Atoms.{Atoms}
+use types.Kit.{Given, Item, Go, ‵, _$_, _∵_, !, qed, by, move, drop, fsplit3, fjoin3, feqI}
 use types.Run.{Opds, look, init, forget, stop, load, and-then, returns, enter, alloc1, alloc0, params1, pass1, free1, free0}
 use sound.WpLaws.{FmC, fmOf}
-use denote.RattleType.{flat, owns}
+use denote.RattleType.{flat}
 use denote.Signature.{typesAt}
 use denote.Steps.{nothing}
 use denote.Triple.Statement.{Triple}
 use denote.Triple.Spec.{Meets}
 use denote.Triple.Clauses.{closing}
 use Rattle.ins2651_rules.specs.declared.Device.{Device}
-use Rattle.ins2651_rules.proofs.Device as D
 use Rattle.ins2651_rules.proofs.Device.Laws as D′
 use Rattle.host.specs.declared.Reply.{Reply}
+use Rattle.host.proofs.Reply as R
 use Rattle.host.proofs.Reply.Laws as R′
-use Rattle.host.proofs.Calls.{vals, val, reference, Bytes, Replies, bytes, lent, Promise, Keeps, Lent, Callee, past, copies, function, calling, held}
+use Rattle.host.proofs.Calls.{vals, val, reference, Bytes, Replies, bytes, lent, Promise, Keeps, Lent, Callee, past, copies, function, held}
 use Rattle.host.proofs.Entry.{Has, meets-by}
 use Rattle.host.proofs.Lends.{Frame, at-call, lends}
-use Rattle.host.proofs.Bytes.{Fit, values, denots, spelled, numbers-are, spelled-are, own-bytes, env, further, all-stand, behind, cells, stands, alloc-bytes, pass-bytes, free-bytes, carried, read-bytes}
+use Rattle.host.proofs.Bytes.{Fit, values, denots, spelled, numbers-are, spelled-are, given-over, env, further, all-stand, behind, cells, stands, alloc-bytes, pass-bytes, free-bytes, carried, read-bytes}
 
 -- == the walk ==
 
 module _ {M : Type 1} (𝓤 : URA M) (H : Heap 𝓤) (A : Atoms 𝓤) (W : Given 𝓤 H A) (n : ℕ) (F : Replies n) (κ : Lft) (q : Share) (b o : ℕ) (γ : GName) where
-  goes : (h : Device) (xs : Bytes n) → Fit n xs → ent 𝓤 (sem 𝓤 H A (D.the-row .own h (vals h))) (Callee 𝓤 H A n F .pre (calling 𝓤 H A n F (h, denots 0 n tt xs) (vals h, spelled 0 n tt xs)))
-  goes h xs fits =
-      qed W (‵ (D.the-row .own h (vals h)) ∷ []) ∵ use0 W (‵ (owns (typesAt (bytes 0 n) tt) (denots 0 n tt xs) (spelled 0 n tt xs))) (own-bytes 𝓤 H A W 0 n tt xs fits) $
-      move ! (1 ∷ 0 ∷ []) $ join ! $ nothing ! $ join ! $ frame ! $ done !
-
   module _ (h : Device) (xs : Bytes n) (a l c r : ℕ) (ks : Bytes n) where
     abbrev locals : Env 𝓤 H
     locals = (tyInt w16, a) ∷ (reference, l) ∷ env n ks ((D′.mir, c) ∷ (R′.mir, r) ∷ [])
@@ -69,7 +64,7 @@ module _ {M : Type 1} (𝓤 : URA M) (H : Heap 𝓤) (A : Atoms 𝓤) (W : Given
         pass1 ! (init ! 5 refl (tt, tt)) $ move ! (4 ∷ []) $ pass-bytes W n ks xs ((D′.mir, c) ∷ (R′.mir, r) ∷ []) fits (
         move ! (9 ∷ 10 ∷ 11 ∷ 1 ∷ 3 ∷ 5 ∷ 7 ∷ []) $
         -- [obs; the borrow; the token; the reply; the copy; the reference; the answer; the bytes; the ends of the reply, the copy, the reference and the answer]
-        lends W κ q b o γ h a l c r (at h xs a l c r ks) fm n F known (h, denots 0 n tt xs) (vals h, spelled 0 n tt xs) (goes h xs fits) (reads h xs a l c r ks _ _) (λ z e fit.
+        lends W κ q b o γ h a l c r (at h xs a l c r ks) fm n F known (h, denots 0 n tt xs) (vals h, spelled 0 n tt xs) (given-over 𝓤 H A W R.the-row n F h xs fits) (reads h xs a l c r ks _ _) (λ z e fit.
         returns ! (look ! 6 refl) $ forget ! 6 refl $ move ! (6 ∷ 11 ∷ []) $ free1 ! $ move ! (5 ∷ 9 ∷ []) $ free1 ! $ move ! (5 ∷ []) $ free-bytes W n ks xs (
         move ! (4 ∷ 6 ∷ []) $ free1 ! $ move ! (3 ∷ 4 ∷ []) $ free1 ! $ free0 ! $ feqI ! (List Val) (vptr b o ∷ []) (vptr b o ∷ []) refl $ fjoin3 ! $ by ! (ends z (e ∙ ap (F h) (numbers-are 0 n tt xs)) fit)))))))))
 

@@ -1,4 +1,4 @@
--- What each call of a lent device answers and leaves behind the reference, by the by-value calls of `ins2651`.
+-- How C gets an answer as one number; and what the acts on a lent device in range answer and leave, of which its calls are made.
 -- Assumes nothing.
 use Prim.Native.Nat.{ℕ, _+_, _*_, _/_, _%_}
 use mathlib.Core.Bool.{cond}

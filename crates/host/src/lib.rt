@@ -1,5 +1,5 @@
 // The device lent to a C host: each call finds it, advances it in place and answers one number. include/ins2651.h is C's view.
-// Whatever bytes the host lends, the call is the by-value call of `ins2651` on them; a refused call hands them back as they were.
+// Whatever bytes the host lends, the call is what `ins2651_rules` says of them; a refused call hands them back as they were.
 // A call makes the device sound once and then acts on it where it stands. For speed one function asks for the range, each act by
 // value has one caller in place, and a tick that changes nothing stores nothing (docs/DECISIONS.md).
 ghost use mathlib.Core.Path.{_≡_};
@@ -28,7 +28,7 @@ pub struct Reply {
     pub device: Device,
 }
 
-// == the acts by value, on a device in range ==
+// == the acts by value, on a device in range: each takes the device and all bytes of its call, so that one walk serves them ==
 
 // What is done and has no value answers 0.
 fn done(d: Device) -> Reply
@@ -133,7 +133,7 @@ fn peek(d: Device) -> Reply
     }
 }
 
-// 1, of any device that is in range.
+// 1, of any device in range: `ins2651_in_range` is then a call that only looks, as the other two.
 fn in_range(d: Device) -> Reply
     ensures { λ r. ⌜ r ≡ Replies.inRange d ⌝ }
 {
@@ -216,7 +216,7 @@ fn fetch_register(d: &mut Device, address: u8) -> u16
     reply.answer
 }
 
-// Data by itself, ..
+// Data has an act of its own, ..
 fn fetch_other(d: &mut Device, address: u8) -> u16
     ensures { λ r. ⌜ (r ≡ readRegister (now (d .entry)) address .value) × (now (d .exit) ≡ readRegister (now (d .entry)) address .device) ⌝ }
 {
@@ -226,7 +226,7 @@ fn fetch_other(d: &mut Device, address: u8) -> u16
     fetch_register(d, address)
 }
 
-// .. and the status, which is read most.
+// .. and so has the status, which is read most.
 fn fetch(d: &mut Device, address: u8) -> u16
     ensures { λ r. ⌜ (r ≡ readRegister (now (d .entry)) address .value) × (now (d .exit) ≡ readRegister (now (d .entry)) address .device) ⌝ }
 {
@@ -254,7 +254,7 @@ fn store_register(d: &mut Device, address: u8, value: u8) -> u16
     reply.answer
 }
 
-// Data by itself.
+// Data has an act of its own.
 fn store(d: &mut Device, address: u8, value: u8) -> u16
     ensures { λ r. ⌜ (r ≡ 0) × (now (d .exit) ≡ writeRegister (now (d .entry)) address value) ⌝ }
 {

@@ -1,6 +1,7 @@
 // The INS2651 over its two halves: document 01's registers, pins, outputs and ticks.
 // Every call takes any number in any field. A device out of range is taken as one just reset; a refused call hands it back as given.
-// `transmit_tick` and `receive_tick` alone check no range: they are for a run of ticks, which settles its device once.
+// The acts below the calls (the two ticks, the reads and writes of registers, pins, status, outputs) and the refusals check no range: they are
+// for a caller that settles its device once (docs/RANGES.md).
 ghost use mathlib.Core.Path.{_≡_};
 ghost use Prim.Native.Nat.{_≤_};
 ghost use Rattle.line_rules.specs.Sending.{bit};
@@ -219,12 +220,14 @@ fn ready_bits(d: Device) -> u8
     weigh(either_mark(d), 4) + weigh(unread(d), 2) + weigh(may_write(d), 1)
 }
 
+// The status of a device in range.
 pub fn status_byte(d: Device) -> u8
     ensures { λ r. ⌜ r ≡ statusByte d ⌝ }
 {
     modem_bits(d) + error_bits(d.flags) + ready_bits(d)
 }
 
+// The levels of the outputs, of a device in range.
 pub fn outputs_of(d: Device) -> OutputPins
     ensures { λ r. ⌜ r ≡ outputsOf d ⌝ }
 {
@@ -346,6 +349,7 @@ pub fn settle(d: Device) -> Device
 
 // == reads ==
 
+// 0 where nothing is refused, as in all refusals.
 pub fn read_refusal(address: u8) -> u8
     ensures { λ r. ⌜ r ≡ readRefusal address ⌝ }
 {
@@ -362,6 +366,7 @@ fn refuse_read(n: u8, d: Device) -> Answer
     }
 }
 
+// RHR of a device in range: it gives again what it last held.
 pub fn read_holding(mut d: Device) -> Answer
     ensures { λ r. ⌜ r ≡ readHolding d ⌝ }
 {
@@ -373,6 +378,7 @@ pub fn read_holding(mut d: Device) -> Answer
     }
 }
 
+// A status read of a device in range clears the change-mark.
 pub fn read_status(mut d: Device) -> Answer
     ensures { λ r. ⌜ r ≡ readStatus d ⌝ }
 {
@@ -417,6 +423,7 @@ fn read_command(mut d: Device) -> Answer
     }
 }
 
+// A read of a device in range, where nothing is refused.
 pub fn read_register(d: Device, address: u8) -> Answer
     ensures { λ r. ⌜ r ≡ readRegister d address ⌝ }
 {
@@ -432,7 +439,7 @@ pub fn read_register(d: Device, address: u8) -> Answer
     read_command(d)
 }
 
-// A register read.
+// A register read. The range is asked for here and not by `settle`, whose copy would cost more than the read.
 pub fn read(d: Device, address: u8) -> Answer
     ensures { λ r. ⌜ r ≡ RegisterReads.read d address ⌝ }
 {
@@ -487,6 +494,7 @@ fn command_refusal(v: u8) -> u8
     if v < 64 { 0 } else { 5 }
 }
 
+// Of the registers of a device in range.
 pub fn write_refusal(r: Registers, address: u8, v: u8) -> u8
     ensures { λ n. ⌜ n ≡ writeRefusal r address v ⌝ }
 {
@@ -499,6 +507,7 @@ pub fn write_refusal(r: Registers, address: u8, v: u8) -> u8
     if address == 3 { command_refusal(v) } else { 0 }
 }
 
+// THR of a device in range.
 pub fn write_holding(mut d: Device, v: u8) -> Device
     ensures { λ r. ⌜ r ≡ writeHolding d v ⌝ }
 {
@@ -605,6 +614,7 @@ fn write_mode(mut d: Device, v: u8) -> Device
     d
 }
 
+// A write of a device in range, where nothing is refused.
 pub fn write_register(d: Device, address: u8, v: u8) -> Device
     ensures { λ r. ⌜ r ≡ writeRegister d address v ⌝ }
 {
@@ -647,6 +657,7 @@ fn changes(p: Pins, dsr: u8, dcd: u8) -> bool
     (p.dsr != dsr) | (p.dcd != dcd)
 }
 
+// New levels of a device in range, where none is refused.
 pub fn pinned(mut d: Device, dsr: u8, dcd: u8, cts: u8) -> Device
     ensures { λ r. ⌜ r ≡ Pinning.pinned d dsr dcd cts ⌝ }
 {

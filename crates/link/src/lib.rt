@@ -1,6 +1,7 @@
 // The two double-buffered halves that every chip has: document 01, "Sending" and "Receiving".
 // Every call takes any number in any field: `link_rules` says what each answers, inside the range and outside.
 ghost use mathlib.Core.Path.{_≡_};
+ghost use mathlib.Core.Bool.{false};
 ghost use Prim.Native.Nat.{suc, _+_, _-_, _^_};
 ghost use lib.Dec.{ltb};
 ghost use Rattle.line_rules.specs.Sending.{parityBits};
@@ -99,9 +100,9 @@ fn frame_next(g: Frame) -> Frame
     no_frame()
 }
 
-// A tick of the frame g.
-fn frame_tick(mut s: SenderHalf, g: Frame, began: bool) -> Sent
-    ensures { λ r. ⌜ r ≡ frameTick s g began ⌝ }
+// A tick of the frame g, behind its first.
+fn frame_tick(mut s: SenderHalf, g: Frame) -> Sent
+    ensures { λ r. ⌜ r ≡ frameTick s g false ⌝ }
 {
     let f = g.format;
     let x = line::level(f, g.character, g.place);
@@ -111,7 +112,7 @@ fn frame_tick(mut s: SenderHalf, g: Frame, began: bool) -> Sent
     Sent {
         half: s,
         level: x,
-        began: began,
+        began: false,
         drained: last & (s.full == 0),
     }
 }
@@ -175,7 +176,7 @@ pub fn transmit(s: SenderHalf, ready: bool, broken: bool, f: Format) -> Sent
 {
     let g = s.frame;
     if 0 < g.place {
-        return frame_tick(s, g, false);
+        return frame_tick(s, g);
     }
     if ready & broken {
         return break_tick(s, f);

@@ -238,10 +238,13 @@ uint16_t ins2651_read(ins2651 *d, uint8_t address) {
     if (address > INS2651_COMMAND) return INS2651_NO_SUCH_ADDRESS << 8;
     settle(d);
     ins2651_registers *r = &d->registers;
-    uint8_t before = status(d);
     switch (address) {
     case INS2651_DATA: d->receiver.unread = 0; return d->receiver.holding;
-    case INS2651_STATUS: d->flags.change = 0; return before;
+    case INS2651_STATUS: {
+        uint8_t before = status(d);
+        d->flags.change = 0;
+        return before;
+    }
     case INS2651_MODE: r->modes ^= 1; return r->modes ? r->mode1 : r->mode2;
     default: r->modes = r->syns = 0; return r->command;
     }

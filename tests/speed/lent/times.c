@@ -1,6 +1,6 @@
 /* The times of the proved lent calls beside those of plain C (chip.c), as native code in one program. Every call goes through a pointer
  * into another object, so that neither side's is inlined. The sides take turns in small batches, and the best batch counts; a checksum of
- * the answers holds them together. First a long run holds the two sides to each other (alike.c). */
+ * the answers holds them together. Both sides' times have the loop, the call through the pointer and the checksum in them. First a long run holds the two sides to each other (alike.c). */
 #define _POSIX_C_SOURCE 199309L
 #include <stdio.h>
 #include <time.h>
@@ -155,7 +155,7 @@ typedef struct row {
     const char *title;
     batch *run;
     ins2651 (*begun)(const calls *);
-    int has_goal;
+    int has_goal; /* not a reset, the mode and the command, which a program sets up with, nor the sums of several calls */
 } row;
 
 static const row rows[] = {
@@ -165,25 +165,25 @@ static const row rows[] = {
     {"receive, character under way", levels, under_way, 1},
     {"status read, idle", status_reads, idle, 1},
     {"status read, both under way", status_reads, under_way, 1},
-    {"data read, idle", data_reads, idle, 0},
-    {"data read, both under way", data_reads, under_way, 0},
+    {"data read, idle", data_reads, idle, 1},
+    {"data read, both under way", data_reads, under_way, 1},
     {"data write, idle", data_writes, idle, 1},
     {"data write, both under way", data_writes, under_way, 1},
     {"pins, idle", pin_calls, idle, 1},
     {"pins, both under way", pin_calls, under_way, 1},
     {"outputs, idle", outputs, idle, 1},
     {"outputs, both under way", outputs, under_way, 1},
-    {"peek, idle", peeks, idle, 0},
-    {"peek, both under way", peeks, under_way, 0},
-    {"in_range, idle", range_looks, idle, 0},
-    {"in_range, both under way", range_looks, under_way, 0},
+    {"peek, idle", peeks, idle, 1},
+    {"peek, both under way", peeks, under_way, 1},
+    {"in_range, idle", range_looks, idle, 1},
+    {"in_range, both under way", range_looks, under_way, 1},
     {"reset", resets, under_way, 0},
     {"mode read", mode_reads, idle, 0},
     {"mode write", mode_writes, idle, 0},
     {"command read", command_reads, idle, 0},
     {"command write", command_writes, idle, 0},
-    {"tick, idle", mark_ticks, idle, 0},
-    {"tick, both under way", level_ticks, under_way, 0},
+    {"tick, idle", mark_ticks, idle, 1},
+    {"tick, both under way", level_ticks, under_way, 1},
     {"joined by 4 calls, idle", four_idle, idle, 0},
     {"joined by 4 calls, full, 16", four_full16, idle, 0},
     {"joined by 4 calls, full, 1", four_full1, idle, 0},
