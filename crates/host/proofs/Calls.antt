@@ -108,12 +108,12 @@ lent n =
     }
 
 -- the bytes are let go, the device is still lent at its last value
-abbrev pub stay-bytes : (n : ℕ) → Stays (bytes 1 n) (kept-bytes 1 n)
-stay-bytes zero = tt
-stay-bytes (suc n) = (stay-dropped (plain (λ _. u8)) yes, stay-bytes n)
+abbrev pub stay-bytes : (k n : ℕ) → Stays (bytes k n) (kept-bytes k n)
+stay-bytes k zero = tt
+stay-bytes k (suc n) = (stay-dropped (plain (λ _. u8)) yes, stay-bytes k n)
 
 abbrev pub stayed : (n : ℕ) → Stays (lent n .signature .params) (lent n .kept)
-stayed n = (stay-ref (0 ∷ []) tt (plain (λ _. D.the-row)), stay-bytes n)
+stayed n = (stay-ref (0 ∷ []) tt (plain (λ _. D.the-row)), stay-bytes 1 n)
 
 module _ {M : Type 1} (𝓤 : URA M) (H : Heap 𝓤) (A : Atoms 𝓤) (U : RattleType) (n : ℕ) (F : Device → Bytes n → U .Denot) where
   -- it gives what F says

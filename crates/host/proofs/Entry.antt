@@ -53,13 +53,13 @@ module _ {M : Type 1} (𝓤 : URA M) (H : Heap 𝓤) (A : Atoms 𝓤) where
       ends r w answered left fits =
           qed W (‵ (held b o κ γ w) ∷ ‵ (flft κ q) ∷ []) ∵
           suffices ! _ (ends-at 𝓤 H A (lent n) (stayed n) (Lent 𝓤 n P) W (((κ, tt), (q, tt), tt, (device b o γ h, xs), (vptr b o ∷ [], vs)), tt) (vint w16 r) r
-          (w, last-bytes n (κ, tt) xs) (tt, fits-bytes n (κ, tt) xs (last-bytes n (κ, tt) xs))) $
+          (w, last-bytes 1 n (κ, tt) xs) (tt, fits-bytes 1 n (κ, tt) xs (last-bytes 1 n (κ, tt) xs))) $
           says ! (answered, left) $ nothing ! $ move ! (2 ∷ 0 ∷ []) $ join ! $ frame ! $
-          use0 W (‵ (hasOf (κ, tt) (bytes 1 n) (kept-bytes 1 n) (stay-bytes n) xs (last-bytes n (κ, tt) xs) vs)) (has-bytes 𝓤 H A W n (κ, tt) xs (last-bytes n (κ, tt) xs) vs) $
+          use0 W (‵ (hasOf (κ, tt) (bytes 1 n) (kept-bytes 1 n) (stay-bytes 1 n) xs (last-bytes 1 n (κ, tt) xs) vs)) (has-bytes 𝓤 H A W 1 n (κ, tt) xs (last-bytes 1 n (κ, tt) xs) vs) $
           move ! (1 ∷ 0 ∷ []) $ fjoin ! $ owned ! u16 (Is u16) (uint-makes 𝓤 H A W w16) r _ (refl, fits) $ move ! (1 ∷ 0 ∷ []) $ done !
 
     abbrev spells : (κs : Lfts 1) → Spells (typesAt (lent n .signature .params) κs)
-    spells κs = (ptr-vals, spell-bytes n κs)
+    spells κs = (ptr-vals, spell-bytes 1 n κs)
 
     abbrev said : (κs : Lfts 1) → Args (lent n .signature) κs → Vals (lent n .signature) κs
     said κs a = valss (typesAt (lent n .signature .params) κs) (spells κs) a
@@ -71,13 +71,13 @@ module _ {M : Type 1} (𝓤 : URA M) (H : Heap 𝓤) (A : Atoms 𝓤) where
       walks κs qs a are =
           via 𝓤 _ (enters (κs .0) (qs .0) (a .0 .ptr .0) (a .0 .ptr .1) (a .0 .name) (a .0 .now) (a .1) (said κs a .1))
           (subst (λ (vs : List Val). ent 𝓤 (Has (κs .0) (qs .0) (a .0 .ptr .0) (a .0 .ptr .1) (a .0 .name) (a .0 .now))
-          (WpFn 𝓤 H (𝓣 .C) (𝓣 .Λ) fn (vptr (a .0 .ptr .0) (a .0 .ptr .1) ∷ vs) (walkOf 𝓤 H A (lent n) (stayed n) (Lent 𝓤 n P) .post ((κs, qs, tt, a, said κs a), tt)))) (passed-are n κs (a .1))
-          (walk (κs .0) (qs .0) (a .0 .ptr .0) (a .0 .ptr .1) (a .0 .name) (a .0 .now) (numbers 1 n κs (a .1)) (fit-all n κs (a .1) (said κs a .1) (are .1)) _
+          (WpFn 𝓤 H (𝓣 .C) (𝓣 .Λ) fn (vptr (a .0 .ptr .0) (a .0 .ptr .1) ∷ vs) (walkOf 𝓤 H A (lent n) (stayed n) (Lent 𝓤 n P) .post ((κs, qs, tt, a, said κs a), tt)))) (passed-are 1 n κs (a .1))
+          (walk (κs .0) (qs .0) (a .0 .ptr .0) (a .0 .ptr .1) (a .0 .name) (a .0 .now) (numbers 1 n κs (a .1)) (fit-all 1 n κs (a .1) (said κs a .1) (are .1)) _
           (ends (κs .0) (qs .0) (a .0 .ptr .0) (a .0 .ptr .1) (a .0 .name) (a .0 .now) (a .1) (said κs a .1))))
 
       pub meets-by : Meets 𝓤 H A (lent n .signature) (WpFn 𝓤 H (𝓣 .C) (𝓣 .Λ) fn) (closing 𝓤 H A (lent n) (Lent 𝓤 n P))
       meets-by =
-          walk-meets 𝓤 H A (lent n) (stayed n) W (goes-ref 𝓤 H A W 1 0 tt (plain (λ _. D.the-row)), go-bytes 𝓤 H A W n) (Lent 𝓤 n P)
+          walk-meets 𝓤 H A (lent n) (stayed n) W (goes-ref 𝓤 H A W 1 0 tt (plain (λ _. D.the-row)), go-bytes 𝓤 H A W 1 n) (Lent 𝓤 n P)
           (WpFn 𝓤 H (𝓣 .C) (𝓣 .Λ) fn) (WpFn-mono 𝓤 H (W .laws) 𝓣 fn)
-          (walked 𝓤 H A (lent n) (stayed n) (Lent 𝓤 n P) (WpFn 𝓤 H (𝓣 .C) (𝓣 .Λ) fn) spells (λ κs. (mut-tells (named 0) (κs .0) D.the-row, tell-bytes n κs))
+          (walked 𝓤 H A (lent n) (stayed n) (Lent 𝓤 n P) (WpFn 𝓤 H (𝓣 .C) (𝓣 .Λ) fn) spells (λ κs. (mut-tells (named 0) (κs .0) D.the-row, tell-bytes 1 n κs))
           (λ κs qs bounds a _ are. via 𝓤 _ (fst∗ 𝓤 _ (emp 𝓤)) (walks κs qs a are)))
