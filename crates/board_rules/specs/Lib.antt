@@ -1,3 +1,4 @@
 pub mod Interrupts
 pub mod Ports
 pub mod Runs
+pub mod Channels
