@@ -2,3 +2,4 @@ pub mod Interrupts
 pub mod Ports
 pub mod Runs
 pub mod Channels
+pub mod Rows
