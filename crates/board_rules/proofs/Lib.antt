@@ -1,3 +1,4 @@
 pub mod Channels
 pub mod OfTheChip
 pub mod Refused
+pub mod Alone

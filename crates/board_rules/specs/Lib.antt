@@ -3,3 +3,4 @@ pub mod Ports
 pub mod Runs
 pub mod Channels
 pub mod Rows
+pub mod About

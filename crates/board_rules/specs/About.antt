@@ -1,0 +1,27 @@
+-- Which calls of a board are about one channel, by the board and the call alone.
+-- Assumes nothing.
+use Prim.Native.Nat.{ℕ}
+use mathlib.Core.Bool.{Bool, false, not, _&&_, _||_}
+use lib.Dec.{eqb}
+use Rattle.board_rules.specs.declared.Board.{Board}
+use Rattle.board_rules.specs.Ports.{Call, In, Out, Reset, Pins, Transmit, Receive, Outputs, Interrupts, channelOf}
+
+-- a read of the interrupt status
+abbrev pub statusPort : ℕ → Bool
+statusPort port = eqb port 4 || eqb port 5
+
+-- a write to a mask or to the select
+abbrev pub boardPort : ℕ → Bool
+boardPort port = eqb port 4 || eqb port 5 || eqb port 7
+
+-- about channel k and no other, refused or not: a port, where k is selected; what names k; and what is of the board alone, at every k. The
+-- interrupt status and lines are of all eight, and so is a reset
+abbrev pub about : Board → Call → ℕ → Bool
+about b (In port) k = not (statusPort port) && eqb (channelOf b) k
+about b (Out port v) k = boardPort port || eqb (channelOf b) k
+about b Reset k = false
+about b (Pins channel dsr dcd cts) k = eqb channel k
+about b (Transmit channel) k = eqb channel k
+about b (Receive channel x) k = eqb channel k
+about b (Outputs channel) k = eqb channel k
+about b Interrupts k = false
