@@ -2,3 +2,4 @@ pub mod Channels
 pub mod OfTheChip
 pub mod Refused
 pub mod Alone
+pub mod Computed

@@ -4,3 +4,4 @@ pub mod Runs
 pub mod Channels
 pub mod Rows
 pub mod About
+pub mod Cases
