@@ -3,3 +3,4 @@ pub mod OfTheChip
 pub mod Refused
 pub mod Alone
 pub mod Computed
+pub mod OfTheBoard

@@ -1,7 +1,7 @@
--- Which calls of a board are about one channel, by the board and the call alone.
+-- Which calls of a board are about one channel, which change its masks and its select, and which change nothing: by the board and the call alone.
 -- Assumes nothing.
 use Prim.Native.Nat.{ℕ}
-use mathlib.Core.Bool.{Bool, false, not, _&&_, _||_}
+use mathlib.Core.Bool.{Bool, true, false, not, _&&_, _||_}
 use lib.Dec.{eqb}
 use Rattle.board_rules.specs.declared.Board.{Board}
 use Rattle.board_rules.specs.Ports.{Call, In, Out, Reset, Pins, Transmit, Receive, Outputs, Interrupts, channelOf}
@@ -25,3 +25,25 @@ about b (Transmit channel) k = eqb channel k
 about b (Receive channel x) k = eqb channel k
 about b (Outputs channel) k = eqb channel k
 about b Interrupts k = false
+
+-- a write to this port, or a reset: all that changes a mask or the select
+abbrev pub sets : ℕ → Call → Bool
+sets p (In port) = false
+sets p (Out port v) = eqb port p
+sets p Reset = true
+sets p (Pins channel dsr dcd cts) = false
+sets p (Transmit channel) = false
+sets p (Receive channel x) = false
+sets p (Outputs channel) = false
+sets p Interrupts = false
+
+-- what looks and changes nothing: the interrupt status and lines, and outputs
+abbrev pub looks : Call → Bool
+looks (In port) = statusPort port
+looks (Out port v) = false
+looks Reset = false
+looks (Pins channel dsr dcd cts) = false
+looks (Transmit channel) = false
+looks (Receive channel x) = false
+looks (Outputs channel) = true
+looks Interrupts = true

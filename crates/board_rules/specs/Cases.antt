@@ -6,7 +6,6 @@ use mathlib.Core.List.{List, [], _∷_, _++_, map}
 use lib.ListN.{replicate, set}
 use Rattle.ins2651_rules.specs.declared.Device.{Device}
 use Rattle.ins2651_rules.specs.Shape.{withRegisters, withPins, withCommand, pinLevels, resetDevice}
-use Rattle.board_rules.specs.declared.Board.{Board}
 use Rattle.board_rules.specs.Ports.{Call, In, Out, Reset, Pins, Transmit, Receive, Outputs, Interrupts}
 use Rattle.board_rules.specs.Runs.{Cabinet, answer, next}
 
