@@ -4,3 +4,4 @@ pub mod Refused
 pub mod Alone
 pub mod Computed
 pub mod OfTheBoard
+pub mod ByChannel

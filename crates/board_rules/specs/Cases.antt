@@ -40,7 +40,7 @@ refused c n = gives c (n * 256)
 abbrev lines : ℕ → ℕ → Row
 lines transmit receive = gives Interrupts (receive * 256 + transmit)
 
--- a user is selected, by its number 0 to 31
+-- the write that selects a user
 abbrev user : ℕ → Row
 user n = done (Out 7 n)
 
@@ -60,14 +60,15 @@ commandedTo dsr = withPins (withRegisters resetDevice (withCommand (resetDevice 
 
 -- == interrupts ==
 
--- transmit is enabled at once with a command of 1: status bit 0
+-- a command of 1 enables transmit, and THR is empty
 abbrev readyToSend : ℕ → List Row
 readyToSend n = user n ∷ done (Out 3 1) ∷ []
 
--- 5 bits, no parity, one tick a bit, receive on, pins low: then a 1 to mark, start, a character of n, stop
+-- 5 bits, no parity, one tick a bit, receive on, pins low: then a 1 to mark, the start, a character by its bits, the stop
 abbrev hears : ℕ → List ℕ → List Row
 hears n bits = user n ∷ done (Out 2 65) ∷ done (Out 2 0) ∷ done (Out 3 4) ∷ done (Pins n 0 0 0) ∷ map (λ (x : ℕ). done (Receive n x)) (1 ∷ 0 ∷ bits ++ 1 ∷ [])
 
+-- 1, 4 and 6 are ready to send; then 2, 3 and 7 hold the characters 2, 3 and 7
 abbrev waiting : List Row
 waiting =
     readyToSend 1 ++ readyToSend 4 ++ readyToSend 6
@@ -125,14 +126,18 @@ selectScripts =
 
 -- == channels ==
 
--- ticks, pins and outputs are of the channel that they name, whatever is selected; its neighbours do not change
+-- transmit ticks of a channel, by the levels that it sends
+abbrev sends : ℕ → List ℕ → List Row
+sends k levels = map (λ (x : ℕ). gives (Transmit k) x) levels
+
+-- ticks, pins and outputs are of the channel that they name, whatever is selected; its neighbours do not change. User 4 sends 21 once its CTS is low
 abbrev channelScripts : List Script
 channelScripts =
     on 0 (user 4 ∷ done (Out 2 65) ∷ done (Out 2 0) ∷ done (Out 3 35) ∷ gives (Outputs 4) 6 ∷ gives (In 4) 16 ∷ done (Out 0 21) ∷ gives (In 4) 0
-    ∷ user 3 ∷ done (Out 3 1) ∷ gives (In 4) 8 ∷ gives (Transmit 4) 1 ∷ gives (Transmit 3) 1 ∷ done (Pins 3 0 0 0) ∷ gives (Transmit 4) 1 ∷ done (Pins 4 1 1 0)
-    ∷ gives (Transmit 4) 0 ∷ gives (In 4) 24 ∷ gives (Transmit 4) 1 ∷ gives (Transmit 3) 1 ∷ gives (Transmit 5) 1 ∷ gives (Transmit 4) 0 ∷ gives (Transmit 4) 1
-    ∷ gives (Transmit 4) 0 ∷ gives (Transmit 4) 1 ∷ gives (Transmit 4) 1 ∷ gives (Outputs 4) 2 ∷ gives (Outputs 3) 26 ∷ gives (Outputs 5) 31
-    ∷ user 5 ∷ gives (In 1) 0 ∷ user 4 ∷ gives (In 1) 5 ∷ user 3 ∷ gives (In 1) 197 ∷ [])
+    ∷ readyToSend 3 ++ gives (In 4) 8 ∷ sends 4 (1 ∷ []) ++ done (Pins 3 0 0 0) ∷ done (Pins 5 0 0 0) ∷ sends 4 (1 ∷ []) ++ done (Pins 4 1 1 0)
+    ∷ sends 4 (0 ∷ []) ++ gives (In 4) 24 ∷ sends 4 (1 ∷ 0 ∷ []) ++ sends 3 (1 ∷ 1 ∷ []) ++ sends 5 (1 ∷ 1 ∷ []) ++ sends 4 (1 ∷ 0 ∷ 1 ∷ 1 ∷ [])
+    ++ gives (Outputs 4) 2 ∷ gives (Outputs 3) 26 ∷ gives (Outputs 5) 27 ∷ gives (Outputs 6) 31
+    ∷ user 6 ∷ gives (In 1) 0 ∷ user 5 ∷ gives (In 1) 196 ∷ user 4 ∷ gives (In 1) 5 ∷ user 3 ∷ gives (In 1) 197 ∷ [])
     ∷ []
 
 -- == refusals ==
