@@ -138,6 +138,9 @@ channelScripts =
     ∷ sends 4 (0 ∷ []) ++ gives (In 4) 24 ∷ sends 4 (1 ∷ 0 ∷ []) ++ sends 3 (1 ∷ 1 ∷ []) ++ sends 5 (1 ∷ 1 ∷ []) ++ sends 4 (1 ∷ 0 ∷ 1 ∷ 1 ∷ [])
     ++ gives (Outputs 4) 2 ∷ gives (Outputs 3) 26 ∷ gives (Outputs 5) 27 ∷ gives (Outputs 6) 31
     ∷ user 6 ∷ gives (In 1) 0 ∷ user 5 ∷ gives (In 1) 196 ∷ user 4 ∷ gives (In 1) 5 ∷ user 3 ∷ gives (In 1) 197 ∷ [])
+    -- registers are read back from the channel where they were written, and DSR, DCD and CTS come in this order
+    ∷ on 0 (user 2 ∷ done (Out 2 206) ∷ done (Out 2 176) ∷ done (Out 3 39) ∷ user 3 ∷ gives (In 2) 0 ∷ gives (In 2) 0 ∷ gives (In 3) 0
+    ∷ user 2 ∷ gives (In 2) 206 ∷ gives (In 2) 176 ∷ gives (In 3) 39 ∷ done (Pins 2 0 1 1) ∷ gives (In 1) 133 ∷ done (Pins 2 1 0 1) ∷ gives (In 1) 69 ∷ [])
     ∷ []
 
 -- == refusals ==
@@ -171,7 +174,8 @@ abbrev resetScripts : List Script
 resetScripts =
     -- all eight channels, whichever is selected, and both masks
     on 0 (waiting ++ readyToSend 0 ++ readyToSend 5 ++ done (Out 4 255) ∷ done (Out 5 255) ∷ lines 115 140 ∷ user 8 ∷ done Reset ∷ lines 0 0 ∷ gives (In 4) 0 ∷ gives (In 5) 0
-    ∷ readyToSend 0 ++ gives (In 4) 1 ∷ lines 0 0 ∷ user 2 ∷ gives (In 0) 0 ∷ gives (In 2) 0 ∷ user 7 ∷ gives (In 0) 0 ∷ gives (In 1) 0 ∷ [])
+    ∷ readyToSend 0 ++ gives (In 4) 1 ∷ lines 0 0 ∷ user 2 ∷ gives (In 0) 0 ∷ gives (In 2) 0 ∷ user 7 ∷ gives (In 0) 0 ∷ gives (In 1) 0
+    ∷ hears 7 (1 ∷ 0 ∷ 0 ∷ 0 ∷ 0 ∷ []) ++ gives (In 5) 128 ∷ lines 0 0 ∷ [])
     -- the select is 0, and the number stays
     ∷ on 2 (user 18 ∷ done (Out 4 255) ∷ done (Out 5 255) ∷ done (Out 3 1) ∷ lines 4 0 ∷ done Reset ∷ refused (In 4) 9 ∷ lines 0 0
     ∷ user 18 ∷ gives (In 1) 0 ∷ done (Out 3 1) ∷ gives (In 4) 4 ∷ lines 0 0 ∷ [])
