@@ -45,7 +45,7 @@ channel-there b = lt-ltb (channelOf b) 8 (omega arith)
 named-fits : (room : List Device) (channel : ℕ) (x : chip.Call) → fits (length room) (named room channel x) ≡ true
 named-fits room channel x = let-through (length room) (ltb 7 channel) false (At channel x) λ a. lt-ltb channel 8 (omega (arith, ltb-false 7 channel a))
 
-pub deed-fits : (b : Board) (room : List Device) (c : Call) → fits (length room) (deed b room c) ≡ true
+deed-fits : (b : Board) (room : List Device) (c : Call) → fits (length room) (deed b room c) ≡ true
 deed-fits b room (In port) =
     let-through (length room) (ltb 5 port) (not (selected b)) (reading b room port) λ a.
     either (λ (e : Deed). fits 8 e ≡ true) (eqb port 4) refl (either (λ (e : Deed). fits 8 e ≡ true) (eqb port 5) refl (channel-there b))
@@ -70,6 +70,7 @@ length-by room (Sets b) h = refl
 length-by room (At k c) h = length-set room k (chip.next (deviceAt room k) c)
 length-by room ResetsAll h = sym (eqb-true (length room) 8 h)
 
+-- beyond the room counts as just reset too
 each-reset : (n k : ℕ) → getD (replicate n resetDevice) k resetDevice ≡ resetDevice
 each-reset zero k = refl
 each-reset (suc n) zero = refl
@@ -96,8 +97,7 @@ answers-by : (room : List Device) (e : Deed) (k : ℕ) → cond (reaches k e) (s
 answers-by room (Refused n) k = refl
 answers-by room (Shows v) k = refl
 answers-by room (Sets b) k = refl
-answers-by room (At j c) k =
-    go (eqb j k) refl
+answers-by room (At j c) k = go (eqb j k) refl
   where
     go : (t : Bool) → eqb j k ≡ t → cond t (saidBy room (At j c) ∷ []) [] ≡ map shown (chip.answers (deviceAt room k) (cond t (c ∷ []) []))
     go true t = ap (λ (i : ℕ). shown (chip.said (deviceAt room i) c) ∷ []) (eqb-true j k t)
@@ -110,6 +110,7 @@ module _ (b : Board) (room : List Device) (c : Call) where
   unfolding roomAfter
   channel-after k = device-by room (deed b room c) k (deed-fits b room c)
 
+  -- a room has as many channels after a call as before
   pub room-stays : length (roomAfter b room c) ≡ length room
   unfolding roomAfter
   room-stays = length-by room (deed b room c) (deed-fits b room c)
@@ -128,7 +129,7 @@ module _ (b : Board) (room : List Device) (c : Call) where
 
 -- == runs ==
 
--- a room has as many channels after a run as before
+-- .. and after a run
 pub room-stays-through : (w : Cabinet) (cs : List Call) → length (after w cs .room) ≡ length (w .room)
 room-stays-through w [] = refl
 room-stays-through w (c ∷ cs) = room-stays-through (next w c) cs ∙ room-stays (w .board) (w .room) c

@@ -139,7 +139,7 @@ module _ (b : Board) (room : List Device) (eight : length room ≡ 8) where
 pub never-selected : (b : Board) → 3 < b .number → selected b ≡ false
 never-selected b h = ne-eqb (b .select / 8 % 4) (b .number) (λ e. omega arith)
 
--- a written v selects channel v % 8 of the board numbered v / 8 % 4, whatever its bits 7-5 are
+-- a written v selects channel v % 8 of the board numbered v / 8 % 4, whatever its bits 7-5 are; so of a stored select, as v, the low five bits count
 pub selects-channel : (b : Board) (v : ℕ) → channelOf (withSelect b v) ≡ v % 8
 selects-channel b v = omega arith
 
