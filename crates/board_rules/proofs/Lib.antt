@@ -5,3 +5,4 @@ pub mod Alone
 pub mod Computed
 pub mod OfTheBoard
 pub mod ByChannel
+pub mod Lines

@@ -5,3 +5,4 @@ pub mod Channels
 pub mod Rows
 pub mod About
 pub mod Cases
+pub mod Lines
