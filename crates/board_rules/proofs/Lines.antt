@@ -1,26 +1,38 @@
 -- Demand 3 for two channels joined by a line, of one board or of two: they run as the pair of `joined_rules`, so that what holds of it holds of them.
 -- Assumes nothing.
-use Prim.Native.Nat.{ℕ, zero, suc, _<_}
+use Prim.Native.Nat.{ℕ, zero, suc, _≤_, _<_}
 use native.Mathlib.Omega.{arith}
 use mathlib.Core.Path.{_≡_, refl, sym, ap, ap₂, subst, _∙_}
-use mathlib.Core.Bool.{Bool, true, false, cond, _&&_, true≢false}
+use mathlib.Core.Bool.{Bool, true, false, cond, not, _&&_, _||_, true≢false}
 use mathlib.Core.List.{List, [], _∷_, _++_, map}
 use lib.Dec.{eqb, ltb}
 use lib.ListN.{length, getD, set, length-set, getD-replicate}
-use borrow.Author.Tests.{eqb-true, eqb-false, eq-eqb, ne-eqb, le-ltb}
-use Rattle.line_rules.proofs.Choice.{all, either, each}
+use borrow.Author.Tests.{ltb-false, eqb-true, eqb-false, eq-eqb, ne-eqb, lt-ltb, le-ltb}
+use Rattle.line_rules.specs.declared.Format.{Format}
+use Rattle.line_rules.specs.Sending.{frameLength}
+use Rattle.line_rules.proofs.Choice.{all, either, each, neither}
 use Rattle.ins2651_rules.specs.declared.Device.{Device}
 use Rattle.ins2651_rules.specs.Shape.{resetDevice}
+use Rattle.ins2651_rules.specs.Modes.{sendFormat}
 use Rattle.ins2651_rules.specs.Ticks.{transmit}
 use Rattle.ins2651_rules.specs.Runs as chip
+use Rattle.ins2651_rules.proofs.Refused.{given-exactly, answers-refusal}
+use Rattle.delivery.specs.Log.{nothingYet}
+use Rattle.delivery.specs.OneWay.{Logged, noLog}
+use Rattle.delivery.specs.OneWay as one-way
+use Rattle.delivery.specs.Promise.{Promised}
 use Rattle.delivery.specs.Joined.{Side, A, B}
 use Rattle.joined_rules.specs.declared.Pair.{Pair}
 use Rattle.joined_rules.specs.Joining as joining
+use Rattle.joined_rules.specs.Bench.{wayFrom, Bench}
 use Rattle.joined_rules.specs.Bench as bench
+use Rattle.joined_rules.specs.Demand3.{Settings, Proper, Agree, FromReset, Holds, FreshlySetUp, allAllowed, Right, Seen, Open}
+use Rattle.joined_rules.specs.Demand3 as demand
+use Rattle.joined_rules.proofs.Promised.{one-way-right, demand-3, bench-sees}
 use Rattle.board_rules.specs.declared.Board.{Board}
-use Rattle.board_rules.specs.Ports.{Call, Transmit, Receive, Deed, Refused, Shows, Sets, At, ResetsAll, named, deed}
+use Rattle.board_rules.specs.Ports.{Call, In, Out, Reset, Pins, Transmit, Receive, Outputs, Interrupts, channelOf, selected, refusal, inRefusal, outRefusal, namedRefusal, roomRefusal, Deed, Refused, Shows, Sets, At, ResetsAll, unless, reading, writing, named, deed}
 use Rattle.board_rules.specs.Runs.{deviceAt, roomBy, asBits, saidBy, boardAfter, roomAfter, said, Cabinet, next}
-use Rattle.board_rules.specs.Lines.{Boards, Which, One, Two, same, cabinet, called, told, deedOf, Spot, Spots, spotAt, isAt, deviceOf, pairOf, Joined, Step, Tick, On, sends, sent, hears, ticked, moved, allMoved, made, madeAt, callSteps, stepsOf, stepsAt}
+use Rattle.board_rules.specs.Lines.{Boards, Which, One, Two, same, cabinet, called, told, deedOf, Spot, Spots, spotAt, isAt, deviceOf, pairOf, Joined, Step, Tick, On, sends, sent, hears, ticked, moved, allMoved, made, madeAt, callSteps, stepsOf, stepsAt, reaches, reachesSpot, begun, fresh}
 
 -- == a room after a call ==
 
@@ -212,3 +224,267 @@ runs-as-pair l w (x ∷ xs) j =
 pub still-joined-after : (l : Spots) (w : Boards) (xs : List Step) → Joined l w → Joined l (allMoved l w xs)
 still-joined-after l w [] j = j
 still-joined-after l w (x ∷ xs) j = still-joined-after l (moved l w x) xs (moved-joined l w x j)
+
+-- == what may come between ==
+
+-- a call that makes no chip call at either channel is no step of theirs
+none-made : (l : Spots) (k : Which) (e : Deed) → madeAt (l .a) k e ≡ [] → madeAt (l .b) k e ≡ [] → callSteps l k e ≡ []
+none-made l k e p q = rw (p, q)
+
+none-at : (p : Spot) (k : Which) (e : Deed) → made (p .channel) e ≡ [] → madeAt p k e ≡ []
+none-at p k e q = either (λ (cs : List chip.Call). cs ≡ []) (same k (p .which)) q refl
+
+-- a call that is refused, unless it is this one, makes none if this one makes none
+unless-none : (n r : ℕ) (e : Deed) → made n e ≡ [] → made n (unless r e) ≡ []
+unless-none n r e q = either (λ (k : Deed). made n k ≡ []) (eqb r 0) q refl
+
+at-none : (m n : ℕ) (c : chip.Call) → eqb m n ≡ false → made n (At m c) ≡ []
+at-none m n c h = rw h
+
+named-none : (room : List Device) (m n : ℕ) (c : chip.Call) → eqb m n ≡ false → made n (named room m c) ≡ []
+named-none room m n c h = unless-none n (namedRefusal (length room) m) (At m c) (at-none m n c h)
+
+absent-none : (n channels : ℕ) (elsewhere : Bool) (e : Deed) → made n (unless (refusal channels true elsewhere) e) ≡ []
+absent-none n channels elsewhere e = either (λ (r : ℕ). made n (unless r e) ≡ []) (eqb channels 8) refl refl
+
+below : (port : ℕ) → port ≤ 5 → (port ≡ 4 → ⊥) → (port ≡ 5 → ⊥) → port < 4
+below port h p q = omega arith
+
+upto : (port : ℕ) → port ≤ 7 → (port ≡ 6 → ⊥) → (port ≡ 7 → ⊥) → port ≤ 5
+upto port h p q = omega arith
+
+-- of a channel that the call does not reach
+module _ (b : Board) (room : List Device) (n : ℕ) where
+  abbrev None : Deed → Type 0
+  None e = made n e ≡ []
+
+  -- a port below 4 is the selected channel's
+  register-none : (port : ℕ) (c : chip.Call) → port < 4 → (ltb port 4 && eqb (channelOf b) n) ≡ false → None (At (channelOf b) c)
+  register-none port c h q = at-none (channelOf b) n c (rw (lt-ltb port 4 h) at q)
+
+  in-none : (port : ℕ) → reaches b (In port) n ≡ false → None (deed b room (In port))
+  in-none port h = go (ltb 5 port) refl
+    where
+      go : (absent : Bool) → ltb 5 port ≡ absent → None (unless (refusal (length room) absent (not (selected b))) (reading b room port))
+      go true e = absent-none n (length room) (not (selected b)) (reading b room port)
+      go false e =
+          unless-none n (refusal (length room) false (not (selected b))) (reading b room port)
+          (each None (eqb port 4) (λ t. refl) λ t. each None (eqb port 5) (λ u. refl) λ u.
+          register-none port (chip.Read port) (below port (ltb-false 5 port e) (eqb-false port 4 t) (eqb-false port 5 u)) h)
+
+  out-none : (port v : ℕ) → reaches b (Out port v) n ≡ false → None (deed b room (Out port v))
+  out-none port v h = go (eqb port 6 || ltb 7 port) refl
+    where
+      go : (absent : Bool) → (eqb port 6 || ltb 7 port) ≡ absent
+          → None (unless (refusal (length room) absent (ltb port 6 && not (selected b))) (writing b port v))
+      go true e = absent-none n (length room) (ltb port 6 && not (selected b)) (writing b port v)
+      go false e =
+          let z = neither (eqb port 6) (ltb 7 port) e in
+          unless-none n (refusal (length room) false (ltb port 6 && not (selected b))) (writing b port v)
+          (each None (eqb port 4) (λ t. refl) λ t. each None (eqb port 5) (λ u. refl) λ u. each None (eqb port 7) (λ s. refl) λ s.
+          register-none port (chip.Write port v) (below port (upto port (ltb-false 7 port (z .1)) (eqb-false port 6 (z .0)) (eqb-false port 7 s)) (eqb-false port 4 t) (eqb-false port 5 u)) h)
+
+  unreached-none : (c : Call) → reaches b c n ≡ false → None (deed b room c)
+  unreached-none (In port) h = in-none port h
+  unreached-none (Out port v) h = out-none port v h
+  unreached-none Reset h = absurd (true≢false h)
+  unreached-none (Pins channel dsr dcd cts) h = named-none room channel n (chip.SetPins dsr dcd cts) h
+  unreached-none (Transmit channel) h = named-none room channel n chip.Transmit h
+  unreached-none (Receive channel x) h = named-none room channel n (chip.Receive x) h
+  unreached-none (Outputs channel) h = named-none room channel n chip.Outputs h
+  unreached-none Interrupts h = either None (eqb (roomRefusal (length room)) 0) refl refl
+
+-- a refusal of the board's own is above the chip's
+refused-none : (room : List Device) (e : Deed) (n : ℕ) → 5 < saidBy room e .refusal → made n e ≡ []
+refused-none room (Refused r) n h = refl
+refused-none room (Shows v) n h = refl
+refused-none room (Sets b′) n h = refl
+refused-none room (At m c) n h =
+    absurd (omega (arith, h, answers-refusal (deviceAt room m) c, given-exactly (deviceAt room m) c .most))
+refused-none room ResetsAll n h = absurd (omega arith)
+
+no-more : (t : Bool) → (t && false) ≡ false
+no-more true = refl
+no-more false = refl
+
+module _ (l : Spots) (w : Boards) where
+  -- a call to another board or at another channel, whatever it is; a select write, a mask, a look at the interrupts; pins, ticks and outputs of
+  -- another channel: none of them reaches the two
+  pub unreached-no-step : (k : Which) (c : Call) → reachesSpot (l .a) w k c ≡ false → reachesSpot (l .b) w k c ≡ false → stepsOf l w (On k c) ≡ []
+  unreached-no-step k c p q = none-made l k (deedOf k c w) (at (l .a) p) (at (l .b) q)
+    where
+      at : (p : Spot) → reachesSpot p w k c ≡ false → madeAt p k (deedOf k c w) ≡ []
+      at p h =
+          each (λ (cs : List chip.Call). cs ≡ []) (same k (p .which))
+          (λ t. unreached-none (cabinet k w .board) (cabinet k w .room) (p .channel) c (rw t at h)) (λ t. refl)
+
+  nowhere : (k : Which) (c : Call) → ((n : ℕ) → reaches (cabinet k w .board) c n ≡ false) → stepsOf l w (On k c) ≡ []
+  nowhere k c h = unreached-no-step k c (at (l .a)) (at (l .b))
+    where
+      at : (p : Spot) → reachesSpot p w k c ≡ false
+      at p = rw (h (p .channel)) (no-more (same k (p .which)))
+
+  pub select-no-step : (k : Which) (v : ℕ) → stepsOf l w (On k (Out 7 v)) ≡ []
+  select-no-step k v = nowhere k (Out 7 v) (λ n. refl)
+
+  pub masks-no-step : (k : Which) (v : ℕ) → (stepsOf l w (On k (Out 4 v)) ≡ []) × (stepsOf l w (On k (Out 5 v)) ≡ [])
+  masks-no-step k v = (nowhere k (Out 4 v) (λ n. refl), nowhere k (Out 5 v) (λ n. refl))
+
+  pub interrupts-no-step : (k : Which) → (stepsOf l w (On k (In 4)) ≡ []) × (stepsOf l w (On k (In 5)) ≡ []) × (stepsOf l w (On k Interrupts) ≡ [])
+  interrupts-no-step k = (nowhere k (In 4) (λ n. refl), nowhere k (In 5) (λ n. refl), nowhere k Interrupts (λ n. refl))
+
+  -- a call refused with 8, 9 or 10, wherever it was for; the chip's own numbers end at 5
+  pub refused-no-step : (k : Which) (c : Call) → 5 < said (cabinet k w .board) (cabinet k w .room) c .refusal → stepsOf l w (On k c) ≡ []
+  unfolding said
+  refused-no-step k c h =
+      none-made l k (deedOf k c w) (none-at (l .a) k (deedOf k c w) (refused-none (cabinet k w .room) (deedOf k c w) (l .a .channel) h))
+      (none-at (l .b) k (deedOf k c w) (refused-none (cabinet k w .room) (deedOf k c w) (l .b .channel) h))
+
+  -- so it is allowed wherever it comes, both ways and one way, and the two stay as they were
+  module _ (x : Step) (xs : List Step) (none : stepsOf l w x ≡ []) where
+    between : stepsAt l w (x ∷ xs) ≡ stepsAt l (moved l w x) xs
+    between = ap (λ (k : List bench.Step). k ++ stepsAt l (moved l w x) xs) none
+
+    pub may-come-between : (a b : Settings) (e : Bench) → allAllowed a b e (stepsAt l w (x ∷ xs)) ≡ allAllowed a b e (stepsAt l (moved l w x) xs)
+    may-come-between a b e = ap (allAllowed a b e) between
+
+    pub may-come-between-one-way : (s : Side) (L : ℕ) (e : Logged Pair)
+        → one-way.allAllowed (wayFrom s) L e (stepsAt l w (x ∷ xs)) ≡ one-way.allAllowed (wayFrom s) L e (stepsAt l (moved l w x) xs)
+    may-come-between-one-way s L e = ap (one-way.allAllowed (wayFrom s) L e) between
+
+    pub between-changes-neither : Joined l w → pairOf l (moved l w x) ≡ pairOf l w
+    between-changes-neither j = step-as-pair l w x j ∙ ap (bench.allMoved (pairOf l w)) none
+
+-- == a board reset may not ==
+
+abbrev Heads : List bench.Step → Type 0
+Heads ss = (t : Side) × ((ys : List bench.Step) × (ss ≡ bench.At t chip.Reset ∷ ys))
+
+-- of one of the two, or of both
+one-heads : (x y : Bool) (rest : List bench.Step) → (x || y) ≡ true
+    → Heads ((map (bench.At A) (cond x (chip.Reset ∷ []) []) ++ map (bench.At B) (cond y (chip.Reset ∷ []) [])) ++ rest)
+one-heads true y rest h = (A, (map (bench.At B) (cond y (chip.Reset ∷ []) []) ++ rest, refl))
+one-heads false true rest h = (B, (rest, refl))
+one-heads false false rest h = absurd (true≢false (sym h))
+
+of-one : (l : Spots) (s : Side) → (same (spotAt s l .which) (l .a .which) || same (spotAt s l .which) (l .b .which)) ≡ true
+of-one l A = rw (same-itself (l .a .which))
+of-one l B = rw (same-itself (l .b .which)) (last (same (l .b .which) (l .a .which)))
+  where
+    last : (t : Bool) → (t || true) ≡ true
+    last true = refl
+    last false = refl
+
+-- a reset of the board of either channel is first of all a chip reset
+module _ (l : Spots) (w : Boards) (j : Joined l w) (s : Side) (xs : List Step) where
+  abbrev k : Which
+  k = spotAt s l .which
+
+  abbrev resetting : List bench.Step
+  resetting = stepsAt l w (On k Reset ∷ xs)
+
+  resets-first : Heads resetting
+  resets-first =
+      let rest : List bench.Step = stepsAt l (called k Reset w) xs in
+      subst (λ (n : ℕ). Heads (callSteps l k (unless (roomRefusal n) ResetsAll) ++ rest)) (sym (j .rooms s)) (one-heads (same k (l .a .which)) (same k (l .b .which)) rest (of-one l s))
+
+  refused-head : (f : List bench.Step → Bool) → ((t : Side) (ys : List bench.Step) → f (bench.At t chip.Reset ∷ ys) ≡ false) → f resetting ≡ false
+  refused-head f h = ap f (resets-first .1 .1) ∙ h (resets-first .0) (resets-first .1 .0)
+
+  pub reset-may-not : (a b : Settings) (e : Bench) → allAllowed a b e resetting ≡ false
+  reset-may-not a b e = refused-head (allAllowed a b e) never
+    where
+      never : (t : Side) (ys : List bench.Step) → allAllowed a b e (bench.At t chip.Reset ∷ ys) ≡ false
+      never A ys = refl
+      never B ys = refl
+
+  pub reset-may-not-one-way : (t : Side) (L : ℕ) (e : Logged Pair) → one-way.allAllowed (wayFrom t) L e resetting ≡ false
+  reset-may-not-one-way t L e = refused-head (one-way.allAllowed (wayFrom t) L e) (never t)
+    where
+      never : (t u : Side) (ys : List bench.Step) → one-way.allAllowed (wayFrom t) L e (bench.At u chip.Reset ∷ ys) ≡ false
+      never A A ys = refl
+      never A B ys = refl
+      never B A ys = refl
+      never B B ys = refl
+
+-- == demand 3 ==
+
+pub boards-append : (l : Spots) (w : Boards) (xs ys : List Step) → allMoved l w (xs ++ ys) ≡ allMoved l (allMoved l w xs) ys
+boards-append l w [] ys = refl
+boards-append l w (x ∷ xs) ys = boards-append l (moved l w x) xs ys
+
+bench-pair : (e : Bench) (ss : List bench.Step) → bench.runs e ss .pair ≡ bench.allMoved (e .pair) ss
+bench-pair e [] = refl
+bench-pair e (x ∷ ss) = bench-pair (bench.step e x) ss
+
+way-pair : (s : Side) (e : Logged Pair) (ss : List bench.Step) → one-way.runs (wayFrom s) e ss .bench ≡ bench.allMoved (e .bench) ss
+way-pair s e [] = refl
+way-pair s e (x ∷ ss) = way-pair s (one-way.step (wayFrom s) e x) ss
+
+-- two channels of any boards, any steps us and a joined tick; then any steps xs
+module _ (l : Spots) (w : Boards) (j : Joined l w) (us xs : List Step) where
+  abbrev p : Pair
+  p = pairOf l w
+
+  abbrev ups : List bench.Step
+  ups = stepsAt l w us
+
+  abbrev ready : Pair
+  ready = pairOf l (allMoved l w us)
+
+  abbrev start : Pair
+  start = pairOf l (begun l w us)
+
+  abbrev ss : List bench.Step
+  ss = stepsAt l (begun l w us) xs
+
+  ready-is : ready ≡ bench.allMoved p ups
+  ready-is = runs-as-pair l w us j
+
+  start-is : start ≡ joining.tick (bench.allMoved p ups) .pair
+  start-is = tick-as-pair l (allMoved l w us) (still-joined-after l w us j) ∙ ap (λ (q : Pair). joining.tick q .pair) ready-is
+
+  -- where the bench ends, the boards are
+  end-is : bench.allMoved start ss ≡ pairOf l (allMoved l w (us ++ Tick ∷ xs))
+  end-is =
+      sym (runs-as-pair l (begun l w us) xs (moved-joined l (allMoved l w us) Tick (still-joined-after l w us j)))
+      ∙ ap (pairOf l) (sym (boards-append l w us (Tick ∷ xs)))
+
+  pub channels-end : bench.runs (fresh l w us) ss .pair ≡ pairOf l (allMoved l w (us ++ Tick ∷ xs))
+  channels-end = bench-pair (fresh l w us) ss ∙ end-is
+
+  pub channels-end-one-way : (s : Side) → one-way.runs (wayFrom s) (noLog start) ss .bench ≡ pairOf l (allMoved l w (us ++ Tick ∷ xs))
+  channels-end-one-way s = way-pair s (noLog start) ss ∙ end-is
+
+  -- one way, whatever happens on the other
+  module _ (s : Side) where
+    abbrev sentIn : Pair → Format
+    sentIn q = sendFormat (bench.deviceAt s q .registers)
+
+    abbrev OneWayRight : Pair → Pair → Type 0
+    OneWayRight m q = Open s m → one-way.allAllowed (wayFrom s) (frameLength (sentIn m)) (noLog q) ss ≡ true → Promised (wayFrom s) (sentIn m) (one-way.runs (wayFrom s) (noLog q) ss)
+
+    pub channels-one-way : FromReset ups → Open s ready → one-way.allAllowed (wayFrom s) (frameLength (sentIn ready)) (noLog start) ss ≡ true
+        → Promised (wayFrom s) (sentIn ready) (one-way.runs (wayFrom s) (noLog start) ss)
+    channels-one-way up =
+        subst (λ (m : Pair). OneWayRight m start) (sym ready-is)
+        (subst (OneWayRight (bench.allMoved p ups)) (sym start-is) (λ opened ok. one-way-right s p ups up opened ss ok))
+
+  -- both ways
+  module _ (a b : Settings) (pa : Proper a) (pb : Proper b) (agree : Agree a b) (up : FromReset ups)
+      (a-holds : Holds a (deviceOf (l .a) (allMoved l w us))) (b-holds : Holds b (deviceOf (l .b) (allMoved l w us)))
+      (ok : allAllowed a b (fresh l w us) ss ≡ true) where
+    set-up : FreshlySetUp a b p ups
+    set-up = record { from-reset = up; a-holds = subst (λ (q : Pair). Holds a (q .a)) ready-is a-holds; b-holds = subst (λ (q : Pair). Holds b (q .b)) ready-is b-holds }
+
+    fresh-is : fresh l w us ≡ demand.fresh p ups
+    fresh-is = ap (λ (q : Pair). record { pair = q; now = 0; there = nothingYet; back = nothingYet }) start-is
+
+    allowed-so : allAllowed a b (demand.fresh p ups) ss ≡ true
+    allowed-so = ap (λ (e : Bench). allAllowed a b e ss) (sym fresh-is) ∙ ok
+
+    pub channels-demand-3 : Right a b (bench.runs (fresh l w us) ss)
+    channels-demand-3 = subst (λ (e : Bench). Right a b (bench.runs e ss)) (sym fresh-is) (demand-3 a b pa pb agree p ups set-up ss allowed-so)
+
+    pub channels-see : Seen a b (bench.runs (fresh l w us) ss)
+    channels-see = subst (λ (e : Bench). Seen a b (bench.runs e ss)) (sym fresh-is) (bench-sees a b pa pb agree p ups set-up ss allowed-so)

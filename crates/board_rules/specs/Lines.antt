@@ -4,14 +4,16 @@ use Prim.Native.Nat.{ℕ, _<_}
 use mathlib.Core.Path.{_≡_}
 use mathlib.Core.Bool.{Bool, true, false, cond, _&&_}
 use mathlib.Core.List.{List, [], _∷_, _++_, map}
-use lib.Dec.{eqb}
+use lib.Dec.{eqb, ltb}
 use lib.ListN.{length}
 use Rattle.ins2651_rules.specs.declared.Device.{Device}
 use Rattle.ins2651_rules.specs.Runs as chip
+use Rattle.delivery.specs.Log.{nothingYet}
 use Rattle.delivery.specs.Joined.{Side, A, B}
 use Rattle.joined_rules.specs.declared.Pair.{Pair}
 use Rattle.joined_rules.specs.Bench as bench
-use Rattle.board_rules.specs.Ports.{Call, Transmit, Receive, Deed, Refused, Shows, Sets, At, ResetsAll, deed}
+use Rattle.board_rules.specs.declared.Board.{Board}
+use Rattle.board_rules.specs.Ports.{Call, In, Out, Reset, Pins, Transmit, Receive, Outputs, Interrupts, channelOf, Deed, Refused, Shows, Sets, At, ResetsAll, deed}
 use Rattle.board_rules.specs.Runs.{deviceAt, said, Cabinet, next}
 
 -- == the boards ==
@@ -131,3 +133,27 @@ stepsOf l w (On k c) = callSteps l k (deedOf k c w)
 abbrev pub stepsAt : Spots → Boards → List Step → List bench.Step
 stepsAt l w [] = []
 stepsAt l w (x ∷ xs) = stepsOf l w x ++ stepsAt l (moved l w x) xs
+
+-- a call can reach a channel: by a register's port where it is the selected one, or by its name; a reset reaches all
+abbrev pub reaches : Board → Call → ℕ → Bool
+reaches b (In port) n = ltb port 4 && eqb (channelOf b) n
+reaches b (Out port v) n = ltb port 4 && eqb (channelOf b) n
+reaches b Reset n = true
+reaches b (Pins channel dsr dcd cts) n = eqb channel n
+reaches b (Transmit channel) n = eqb channel n
+reaches b (Receive channel x) n = eqb channel n
+reaches b (Outputs channel) n = eqb channel n
+reaches b Interrupts n = false
+
+abbrev pub reachesSpot : Spot → Boards → Which → Call → Bool
+reachesSpot p w k c = same k (p .which) && reaches (cabinet k w .board) c (p .channel)
+
+-- == demand 3 ==
+
+-- a set-up, then one joined tick
+abbrev pub begun : Spots → Boards → List Step → Boards
+begun l w us = ticked l (allMoved l w us)
+
+-- the bench of the two chips from there, with the logs of both ways
+abbrev pub fresh : Spots → Boards → List Step → bench.Bench
+fresh l w us = record { pair = pairOf l (begun l w us); now = 0; there = nothingYet; back = nothingYet }
