@@ -11,9 +11,11 @@ use borrow.Author.Tests.{ltb-false, eqb-true, eqb-false, eq-eqb, ne-eqb, lt-ltb,
 use Rattle.line_rules.specs.declared.Format.{Format}
 use Rattle.line_rules.specs.Sending.{frameLength}
 use Rattle.line_rules.proofs.Choice.{all, either, each, neither}
+use Rattle.line_rules.proofs.Table.{both}
 use Rattle.ins2651_rules.specs.declared.Device.{Device}
 use Rattle.ins2651_rules.specs.Shape.{resetDevice}
 use Rattle.ins2651_rules.specs.Modes.{sendFormat}
+use Rattle.ins2651_rules.specs.RegisterReads.{read}
 use Rattle.ins2651_rules.specs.Ticks.{transmit}
 use Rattle.ins2651_rules.specs.Runs as chip
 use Rattle.ins2651_rules.proofs.Refused.{given-exactly, answers-refusal}
@@ -32,7 +34,7 @@ use Rattle.joined_rules.proofs.Promised.{one-way-right, demand-3, bench-sees}
 use Rattle.board_rules.specs.declared.Board.{Board}
 use Rattle.board_rules.specs.Ports.{Call, In, Out, Reset, Pins, Transmit, Receive, Outputs, Interrupts, channelOf, selected, refusal, inRefusal, outRefusal, namedRefusal, roomRefusal, Deed, Refused, Shows, Sets, At, ResetsAll, unless, reading, writing, named, deed}
 use Rattle.board_rules.specs.Runs.{deviceAt, roomBy, asBits, saidBy, boardAfter, roomAfter, said, Cabinet, next}
-use Rattle.board_rules.specs.Lines.{Boards, Which, One, Two, same, cabinet, called, told, deedOf, Spot, Spots, spotAt, isAt, deviceOf, pairOf, Joined, Step, Tick, On, sends, sent, hears, ticked, moved, allMoved, made, madeAt, callSteps, stepsOf, stepsAt, reaches, reachesSpot, begun, fresh}
+use Rattle.board_rules.specs.Lines.{Boards, Which, One, Two, same, cabinet, called, told, deedOf, Spot, Spots, spotAt, isAt, deviceOf, pairOf, Joined, Aside, allCalled, Between, Step, Tick, On, sends, sent, hears, oneSent, bothSent, oneHeard, ticked, moved, allMoved, made, madeAt, callSteps, none, asideSteps, aloof, oneByOne, stepsOf, stepsAt, reaches, reachesSpot, begun, fresh}
 
 -- == a room after a call ==
 
@@ -141,6 +143,9 @@ made-at p k n c = go (same k (p .which))
     go true = refl
     go false = refl
 
+alone : (x : ℕ) → asBits (x ∷ []) ≡ x
+alone x = omega arith
+
 module _ (l : Spots) (w : Boards) (j : Joined l w) where
   side-steps : (s : Side) (c : chip.Call) → callSteps l (spotAt s l .which) (At (spotAt s l .channel) c) ≡ bench.At s c ∷ []
   side-steps A c = rw (made-at (l .a) (l .a .which) (l .a .channel) c, made-at (l .b) (l .a .which) (l .a .channel) c, own-spot (l .a), j .apart)
@@ -167,59 +172,171 @@ module _ (l : Spots) (w : Boards) (j : Joined l w) where
   side-hears : (s : Side) (x : ℕ) → pairOf l (hears l s x w) ≡ bench.moved (pairOf l w) (bench.At s (chip.Receive x))
   side-hears s x = side-called s (Receive (spotAt s l .channel) x) (chip.Receive x) (side-named s (chip.Receive x))
 
-  -- the level that the board answers is the chip's
-  level-sent : (s : Side) → sent l s w ≡ transmit (bench.deviceAt s (pairOf l w)) .level
+  -- what the board answers is what the chip does
+  side-told : (s : Side) (c : Call) (d : chip.Call) → deedOf (spotAt s l .which) c w ≡ At (spotAt s l .channel) d
+      → told (spotAt s l .which) c w ≡ asBits (chip.said (bench.deviceAt s (pairOf l w)) d .values)
   unfolding said
-  level-sent s = ap (λ (e : Deed). saidBy (cabinet (spotAt s l .which) w .room) e .value) (side-named s chip.Transmit) ∙ shown s
+  side-told s c d e = ap (λ (k : Deed). saidBy (cabinet (spotAt s l .which) w .room) k .value) e ∙ shown s
     where
-      shown : (s : Side) → asBits (transmit (deviceOf (spotAt s l) w) .level ∷ []) ≡ transmit (bench.deviceAt s (pairOf l w)) .level
-      shown A = omega arith
-      shown B = omega arith
+      shown : (s : Side) → asBits (chip.said (deviceOf (spotAt s l) w) d .values) ≡ asBits (chip.said (bench.deviceAt s (pairOf l w)) d .values)
+      shown A = refl
+      shown B = refl
+
+  level-sent : (s : Side) → sent l s w ≡ transmit (bench.deviceAt s (pairOf l w)) .level
+  level-sent s = side-told s (Transmit (spotAt s l .channel)) chip.Transmit (side-named s chip.Transmit) ∙ alone (transmit (bench.deviceAt s (pairOf l w)) .level)
+
+  -- while a channel is selected, the ports 0 to 3 are its registers
+  module _ (s : Side) (on : selected (cabinet (spotAt s l .which) w .board) ≡ true) (here : channelOf (cabinet (spotAt s l .which) w .board) ≡ spotAt s l .channel)
+      (port : ℕ) (low : port < 4) where
+    abbrev b : Board
+    b = cabinet (spotAt s l .which) w .board
+
+    abbrev room : List Device
+    room = cabinet (spotAt s l .which) w .room
+
+    in-deed : deed b room (In port) ≡ At (spotAt s l .channel) (chip.Read port)
+    in-deed =
+        let z : ltb 5 port ≡ false = le-ltb 5 port (omega arith) in
+        let u : eqb port 4 ≡ false = ne-eqb port 4 (λ e. omega arith) in
+        let v : eqb port 5 ≡ false = ne-eqb port 5 (λ e. omega arith) in
+        rw (j .rooms s, z, on, u, v) (ap (λ (k : ℕ). At k (chip.Read port)) here)
+
+    out-deed : (v : ℕ) → deed b room (Out port v) ≡ At (spotAt s l .channel) (chip.Write port v)
+    out-deed x =
+        let z : ltb 7 port ≡ false = le-ltb 7 port (omega arith) in
+        let t : eqb port 6 ≡ false = ne-eqb port 6 (λ e. omega arith) in
+        let u : eqb port 4 ≡ false = ne-eqb port 4 (λ e. omega arith) in
+        let v : eqb port 5 ≡ false = ne-eqb port 5 (λ e. omega arith) in
+        let y : eqb port 7 ≡ false = ne-eqb port 7 (λ e. omega arith) in
+        let q : ltb port 6 ≡ true = lt-ltb port 6 (omega arith) in
+        rw (j .rooms s, z, t, q, on, u, v, y) (ap (λ (k : ℕ). At k (chip.Write port x)) here)
+
+    pub selected-reads : stepsOf l w (On (spotAt s l .which) (In port)) ≡ bench.At s (chip.Read port) ∷ []
+    selected-reads = ap (callSteps l (spotAt s l .which)) in-deed ∙ side-steps s (chip.Read port)
+
+    pub selected-writes : (v : ℕ) → stepsOf l w (On (spotAt s l .which) (Out port v)) ≡ bench.At s (chip.Write port v) ∷ []
+    selected-writes v = ap (callSteps l (spotAt s l .which)) (out-deed v) ∙ side-steps s (chip.Write port v)
+
+    pub selected-told : told (spotAt s l .which) (In port) w ≡ read (bench.deviceAt s (pairOf l w)) port .value
+    selected-told = side-told s (In port) (chip.Read port) in-deed ∙ alone (read (bench.deviceAt s (pairOf l w)) port .value)
 
 -- == a joined tick ==
 
-pub tick-as-pair : (l : Spots) (w : Boards) → Joined l w → pairOf l (ticked l w) ≡ joining.tick (pairOf l w) .pair
-unfolding joining.tick
-tick-as-pair l w j =
-    let p : Pair = pairOf l w in
-    let v : Boards = sends l A w in
-    let jv : Joined l v = still-joined l w (l .a .which) (Transmit (l .a .channel)) j in
-    let u : Boards = sends l B v in
-    let ju : Joined l u = still-joined l v (l .b .which) (Transmit (l .b .channel)) jv in
-    let x : ℕ = sent l A w in
-    let y : ℕ = sent l B v in
-    let jt : Joined l (hears l A y u) = still-joined l u (l .a .which) (Receive (l .a .channel) y) ju in
-    let a-sends : pairOf l v ≡ bench.moved p (bench.At A chip.Transmit) = side-sends l w j A in
-    side-hears l (hears l A y u) jt B x
-    ∙ ap (λ (q : Pair). bench.moved q (bench.At B (chip.Receive x))) (side-hears l u ju A y)
-    ∙ ap (λ (q : Pair). bench.moved (bench.moved q (bench.At A (chip.Receive y))) (bench.At B (chip.Receive x))) (side-sends l v jv B)
-    ∙ ap (λ (q : Pair). bench.moved (bench.moved (bench.moved q (bench.At B chip.Transmit)) (bench.At A (chip.Receive y))) (bench.At B (chip.Receive x))) a-sends
-    ∙ ap₂ (λ (m n : ℕ). bench.allMoved p (bench.At A chip.Transmit ∷ bench.At B chip.Transmit ∷ bench.At A (chip.Receive n) ∷ bench.At B (chip.Receive m) ∷ []))
-    (level-sent l w j A) (level-sent l v jv B ∙ ap (λ (q : Pair). transmit (q .b) .level) a-sends)
+asides-joined : (l : Spots) (xs : List Aside) (w : Boards) → Joined l w → Joined l (allCalled xs w)
+asides-joined l [] w j = j
+asides-joined l (x ∷ xs) w j = asides-joined l xs (called (x .which) (x .call) w) (still-joined l w (x .which) (x .call) j)
+
+-- one list of steps behind another
+onward : (p : Pair) {q r : Pair} (xs ys : List bench.Step) → q ≡ bench.allMoved p xs → r ≡ bench.allMoved q ys → r ≡ bench.allMoved p (xs ++ ys)
+onward p xs ys e f = f ∙ ap (λ (q : Pair). bench.allMoved q ys) e ∙ sym (pair-append p xs ys)
+
+asides-as-pair : (l : Spots) (xs : List Aside) (w : Boards) → Joined l w → pairOf l (allCalled xs w) ≡ bench.allMoved (pairOf l w) (asideSteps l xs w)
+asides-as-pair l [] w j = refl
+asides-as-pair l (x ∷ xs) w j =
+    onward (pairOf l w) (callSteps l (x .which) (deedOf (x .which) (x .call) w)) (asideSteps l xs (called (x .which) (x .call) w)) (call-as-pair l w (x .which) (x .call) j)
+    (asides-as-pair l xs (called (x .which) (x .call) w) (still-joined l w (x .which) (x .call) j))
+
+none-is : (ss : List bench.Step) → none ss ≡ true → ss ≡ []
+none-is [] h = refl
+none-is (x ∷ ss) h = absurd (true≢false (sym h))
+
+module _ (l : Spots) (m : Between) (w : Boards) (j : Joined l w) where
+  abbrev one : Boards
+  one = oneSent l m w
+
+  abbrev two : Boards
+  two = bothSent l m w
+
+  abbrev three : Boards
+  three = oneHeard l m w
+
+  abbrev x : ℕ
+  x = sent l A w
+
+  abbrev y : ℕ
+  y = sent l B one
+
+  abbrev first : List bench.Step
+  first = asideSteps l (m .first) (sends l A w)
+
+  abbrev second : List bench.Step
+  second = asideSteps l (m .second) (sends l B one)
+
+  abbrev third : List bench.Step
+  third = asideSteps l (m .third) (hears l A y two)
+
+  joined-sent : Joined l (sends l A w)
+  joined-sent = still-joined l w (l .a .which) (Transmit (l .a .channel)) j
+
+  joined-one : Joined l one
+  joined-one = asides-joined l (m .first) (sends l A w) joined-sent
+
+  joined-both : Joined l (sends l B one)
+  joined-both = still-joined l one (l .b .which) (Transmit (l .b .channel)) joined-one
+
+  joined-two : Joined l two
+  joined-two = asides-joined l (m .second) (sends l B one) joined-both
+
+  joined-heard : Joined l (hears l A y two)
+  joined-heard = still-joined l two (l .a .which) (Receive (l .a .channel) y) joined-two
+
+  joined-three : Joined l three
+  joined-three = asides-joined l (m .third) (hears l A y two) joined-heard
+
+  tick-joined : Joined l (ticked l m w)
+  tick-joined = still-joined l three (l .b .which) (Receive (l .b .channel) x) joined-three
+
+  -- each of the four calls with what comes behind it
+  one-is : pairOf l one ≡ bench.allMoved (pairOf l w) (bench.At A chip.Transmit ∷ first)
+  one-is = onward (pairOf l w) (bench.At A chip.Transmit ∷ []) first (side-sends l w j A) (asides-as-pair l (m .first) (sends l A w) joined-sent)
+
+  two-is : pairOf l two ≡ bench.allMoved (pairOf l one) (bench.At B chip.Transmit ∷ second)
+  two-is = onward (pairOf l one) (bench.At B chip.Transmit ∷ []) second (side-sends l one joined-one B) (asides-as-pair l (m .second) (sends l B one) joined-both)
+
+  three-is : pairOf l three ≡ bench.allMoved (pairOf l two) (bench.At A (chip.Receive y) ∷ third)
+  three-is = onward (pairOf l two) (bench.At A (chip.Receive y) ∷ []) third (side-hears l two joined-two A y) (asides-as-pair l (m .third) (hears l A y two) joined-heard)
+
+  one-by-one : pairOf l (ticked l m w) ≡ bench.allMoved (pairOf l w) (oneByOne l m w)
+  one-by-one =
+      let first′ : List bench.Step = bench.At A chip.Transmit ∷ first in
+      let second′ : List bench.Step = bench.At B chip.Transmit ∷ second in
+      let third′ : List bench.Step = bench.At A (chip.Receive y) ∷ third in
+      onward (pairOf l w) (first′ ++ second′ ++ third′) (bench.At B (chip.Receive x) ∷ [])
+      (onward (pairOf l w) (first′ ++ second′) third′ (onward (pairOf l w) first′ second′ one-is two-is) three-is)
+      (side-hears l three joined-three B x)
+
+  -- with nothing to the two between, a joined tick
+  pub tick-as-pair : aloof l m w ≡ true → pairOf l (ticked l m w) ≡ joining.tick (pairOf l w) .pair
+  unfolding joining.tick
+  tick-as-pair h =
+      let p : Pair = pairOf l w in
+      let t = both (none first && none second) (none third) h in
+      let u = both (none first) (none second) (t .0) in
+      let no-first : first ≡ [] = none-is first (u .0) in
+      one-by-one
+      ∙ ap (λ (ss : List bench.Step). bench.allMoved p ((bench.At A chip.Transmit ∷ ss) ++ (bench.At B chip.Transmit ∷ second) ++ (bench.At A (chip.Receive y) ∷ third) ++ (bench.At B (chip.Receive x) ∷ []))) no-first
+      ∙ ap₂ (λ (ss ts : List bench.Step). bench.allMoved p ((bench.At A chip.Transmit ∷ []) ++ (bench.At B chip.Transmit ∷ ss) ++ (bench.At A (chip.Receive y) ∷ ts) ++ (bench.At B (chip.Receive x) ∷ [])))
+      (none-is second (u .1)) (none-is third (t .1))
+      ∙ ap₂ (λ (m n : ℕ). bench.allMoved p (bench.At A chip.Transmit ∷ bench.At B chip.Transmit ∷ bench.At A (chip.Receive n) ∷ bench.At B (chip.Receive m) ∷ []))
+      (level-sent l w j A)
+      (level-sent l one joined-one B ∙ ap (λ (q : Pair). transmit (q .b) .level) (one-is ∙ ap (λ (ss : List bench.Step). bench.allMoved p (bench.At A chip.Transmit ∷ ss)) no-first))
 
 -- == runs ==
 
 pub moved-joined : (l : Spots) (w : Boards) (x : Step) → Joined l w → Joined l (moved l w x)
+moved-joined l w (Tick m) j = tick-joined l m w j
 moved-joined l w (On k c) j = still-joined l w k c j
-moved-joined l w Tick j =
-    let v : Boards = sends l A w in
-    let u : Boards = sends l B v in
-    let x : ℕ = sent l B v in
-    still-joined l (hears l A x u) (l .b .which) (Receive (l .b .channel) (sent l A w))
-    (still-joined l u (l .a .which) (Receive (l .a .channel) x)
-    (still-joined l v (l .b .which) (Transmit (l .b .channel))
-    (still-joined l w (l .a .which) (Transmit (l .a .channel)) j)))
 
 pub step-as-pair : (l : Spots) (w : Boards) (x : Step) → Joined l w → pairOf l (moved l w x) ≡ bench.allMoved (pairOf l w) (stepsOf l w x)
-step-as-pair l w Tick j = tick-as-pair l w j
+step-as-pair l w (Tick m) j =
+    each (λ (ss : List bench.Step). pairOf l (ticked l m w) ≡ bench.allMoved (pairOf l w) ss) (aloof l m w) (tick-as-pair l m w j) (λ t. one-by-one l m w j)
 step-as-pair l w (On k c) j = call-as-pair l w k c j
 
 -- after any list of steps, the two channels are the pair after what the steps are to it
 pub runs-as-pair : (l : Spots) (w : Boards) (xs : List Step) → Joined l w → pairOf l (allMoved l w xs) ≡ bench.allMoved (pairOf l w) (stepsAt l w xs)
 runs-as-pair l w [] j = refl
 runs-as-pair l w (x ∷ xs) j =
-    runs-as-pair l (moved l w x) xs (moved-joined l w x j) ∙ ap (λ (p : Pair). bench.allMoved p (stepsAt l (moved l w x) xs)) (step-as-pair l w x j)
-    ∙ sym (pair-append (pairOf l w) (stepsOf l w x) (stepsAt l (moved l w x) xs))
+    onward (pairOf l w) (stepsOf l w x) (stepsAt l (moved l w x) xs) (step-as-pair l w x j) (runs-as-pair l (moved l w x) xs (moved-joined l w x j))
 
 pub still-joined-after : (l : Spots) (w : Boards) (xs : List Step) → Joined l w → Joined l (allMoved l w xs)
 still-joined-after l w [] j = j
@@ -355,6 +472,15 @@ module _ (l : Spots) (w : Boards) where
     pub between-changes-neither : Joined l w → pairOf l (moved l w x) ≡ pairOf l w
     between-changes-neither j = step-as-pair l w x j ∙ ap (bench.allMoved (pairOf l w)) none
 
+-- nor do such calls take a joined tick apart that they come into
+pub aside-none : (l : Spots) (x : Aside) (xs : List Aside) (w : Boards) → stepsOf l w (On (x .which) (x .call)) ≡ [] → asideSteps l xs (called (x .which) (x .call) w) ≡ []
+    → asideSteps l (x ∷ xs) w ≡ []
+aside-none l x xs w p q = rw (p, q)
+
+pub still-a-tick : (l : Spots) (m : Between) (w : Boards) → asideSteps l (m .first) (sends l A w) ≡ [] → asideSteps l (m .second) (sends l B (oneSent l m w)) ≡ []
+    → asideSteps l (m .third) (hears l A (sent l B (oneSent l m w)) (bothSent l m w)) ≡ [] → stepsOf l w (Tick m) ≡ bench.Tick ∷ []
+still-a-tick l m w p q r = rw (p, q, r)
+
 -- == a board reset may not ==
 
 abbrev Heads : List bench.Step → Type 0
@@ -422,7 +548,7 @@ way-pair s e [] = refl
 way-pair s e (x ∷ ss) = way-pair s (one-way.step (wayFrom s) e x) ss
 
 -- two channels of any boards, any steps us and a joined tick; then any steps xs
-module _ (l : Spots) (w : Boards) (j : Joined l w) (us xs : List Step) where
+module _ (l : Spots) (w : Boards) (j : Joined l w) (us : List Step) (m : Between) (alone : aloof l m (allMoved l w us) ≡ true) (xs : List Step) where
   abbrev p : Pair
   p = pairOf l w
 
@@ -433,27 +559,27 @@ module _ (l : Spots) (w : Boards) (j : Joined l w) (us xs : List Step) where
   ready = pairOf l (allMoved l w us)
 
   abbrev start : Pair
-  start = pairOf l (begun l w us)
+  start = pairOf l (begun l w us m)
 
   abbrev ss : List bench.Step
-  ss = stepsAt l (begun l w us) xs
+  ss = stepsAt l (begun l w us m) xs
 
   ready-is : ready ≡ bench.allMoved p ups
   ready-is = runs-as-pair l w us j
 
   start-is : start ≡ joining.tick (bench.allMoved p ups) .pair
-  start-is = tick-as-pair l (allMoved l w us) (still-joined-after l w us j) ∙ ap (λ (q : Pair). joining.tick q .pair) ready-is
+  start-is = tick-as-pair l m (allMoved l w us) (still-joined-after l w us j) alone ∙ ap (λ (q : Pair). joining.tick q .pair) ready-is
 
   -- where the bench ends, the boards are
-  end-is : bench.allMoved start ss ≡ pairOf l (allMoved l w (us ++ Tick ∷ xs))
+  end-is : bench.allMoved start ss ≡ pairOf l (allMoved l w (us ++ Tick m ∷ xs))
   end-is =
-      sym (runs-as-pair l (begun l w us) xs (moved-joined l (allMoved l w us) Tick (still-joined-after l w us j)))
-      ∙ ap (pairOf l) (sym (boards-append l w us (Tick ∷ xs)))
+      sym (runs-as-pair l (begun l w us m) xs (moved-joined l (allMoved l w us) (Tick m) (still-joined-after l w us j)))
+      ∙ ap (pairOf l) (sym (boards-append l w us (Tick m ∷ xs)))
 
-  pub channels-end : bench.runs (fresh l w us) ss .pair ≡ pairOf l (allMoved l w (us ++ Tick ∷ xs))
-  channels-end = bench-pair (fresh l w us) ss ∙ end-is
+  pub channels-end : bench.runs (fresh l w us m) ss .pair ≡ pairOf l (allMoved l w (us ++ Tick m ∷ xs))
+  channels-end = bench-pair (fresh l w us m) ss ∙ end-is
 
-  pub channels-end-one-way : (s : Side) → one-way.runs (wayFrom s) (noLog start) ss .bench ≡ pairOf l (allMoved l w (us ++ Tick ∷ xs))
+  pub channels-end-one-way : (s : Side) → one-way.runs (wayFrom s) (noLog start) ss .bench ≡ pairOf l (allMoved l w (us ++ Tick m ∷ xs))
   channels-end-one-way s = way-pair s (noLog start) ss ∙ end-is
 
   -- one way, whatever happens on the other
@@ -473,18 +599,18 @@ module _ (l : Spots) (w : Boards) (j : Joined l w) (us xs : List Step) where
   -- both ways
   module _ (a b : Settings) (pa : Proper a) (pb : Proper b) (agree : Agree a b) (up : FromReset ups)
       (a-holds : Holds a (deviceOf (l .a) (allMoved l w us))) (b-holds : Holds b (deviceOf (l .b) (allMoved l w us)))
-      (ok : allAllowed a b (fresh l w us) ss ≡ true) where
+      (ok : allAllowed a b (fresh l w us m) ss ≡ true) where
     set-up : FreshlySetUp a b p ups
     set-up = record { from-reset = up; a-holds = subst (λ (q : Pair). Holds a (q .a)) ready-is a-holds; b-holds = subst (λ (q : Pair). Holds b (q .b)) ready-is b-holds }
 
-    fresh-is : fresh l w us ≡ demand.fresh p ups
+    fresh-is : fresh l w us m ≡ demand.fresh p ups
     fresh-is = ap (λ (q : Pair). record { pair = q; now = 0; there = nothingYet; back = nothingYet }) start-is
 
     allowed-so : allAllowed a b (demand.fresh p ups) ss ≡ true
     allowed-so = ap (λ (e : Bench). allAllowed a b e ss) (sym fresh-is) ∙ ok
 
-    pub channels-demand-3 : Right a b (bench.runs (fresh l w us) ss)
+    pub channels-demand-3 : Right a b (bench.runs (fresh l w us m) ss)
     channels-demand-3 = subst (λ (e : Bench). Right a b (bench.runs e ss)) (sym fresh-is) (demand-3 a b pa pb agree p ups set-up ss allowed-so)
 
-    pub channels-see : Seen a b (bench.runs (fresh l w us) ss)
+    pub channels-see : Seen a b (bench.runs (fresh l w us m) ss)
     channels-see = subst (λ (e : Bench). Seen a b (bench.runs e ss)) (sym fresh-is) (bench-sees a b pa pb agree p ups set-up ss allowed-so)

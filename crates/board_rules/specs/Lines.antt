@@ -80,9 +80,27 @@ pub record Joined (l : Spots) (w : Boards) : Type 0 where
 
 -- == steps ==
 
+-- a call to one of the boards, and what such calls leave, the first one first
+pub record Aside : Type 0 where
+  pub which : Which
+  pub call : Call
+
+abbrev pub allCalled : List Aside → Boards → Boards
+allCalled [] w = w
+allCalled (x ∷ xs) w = allCalled xs (called (x .which) (x .call) w)
+
+-- what comes between the four calls of a joined tick
+pub record Between : Type 0 where
+  pub first : List Aside
+  pub second : List Aside
+  pub third : List Aside
+
+abbrev pub nothing : Between
+nothing = record { first = []; second = []; third = [] }
+
 -- a joined tick of the two channels, or any call to one of the boards
 pub data Step : Type 0 where
-  Tick : Step
+  Tick : Between → Step
   On : Which → Call → Step
 
 module _ (l : Spots) where
@@ -96,11 +114,21 @@ module _ (l : Spots) where
   hears s x w = called (spotAt s l .which) (Receive (spotAt s l .channel) x) w
 
   -- two board transmit ticks, then two board receive ticks with the other's level
-  abbrev pub ticked : Boards → Boards
-  ticked w = hears B (sent A w) (hears A (sent B (sends A w)) (sends B (sends A w)))
+  module _ (m : Between) (w : Boards) where
+    abbrev pub oneSent : Boards
+    oneSent = allCalled (m .first) (sends A w)
+
+    abbrev pub bothSent : Boards
+    bothSent = allCalled (m .second) (sends B oneSent)
+
+    abbrev pub oneHeard : Boards
+    oneHeard = allCalled (m .third) (hears A (sent B oneSent) bothSent)
+
+    abbrev pub ticked : Boards
+    ticked = hears B (sent A w) oneHeard
 
   abbrev pub moved : Boards → Step → Boards
-  moved w Tick = ticked w
+  moved w (Tick m) = ticked m w
   moved w (On k c) = called k c w
 
   -- after a list of steps, the first one first
@@ -125,8 +153,30 @@ madeAt p k e = cond (same k (p .which)) (made (p .channel) e) []
 abbrev pub callSteps : Spots → Which → Deed → List bench.Step
 callSteps l k e = map (bench.At A) (madeAt (l .a) k e) ++ map (bench.At B) (madeAt (l .b) k e)
 
+abbrev pub none : List bench.Step → Bool
+none [] = true
+none (x ∷ xs) = false
+
+abbrev pub asideSteps : Spots → List Aside → Boards → List bench.Step
+asideSteps l [] w = []
+asideSteps l (x ∷ xs) w = callSteps l (x .which) (deedOf (x .which) (x .call) w) ++ asideSteps l xs (called (x .which) (x .call) w)
+
+module _ (l : Spots) (m : Between) (w : Boards) where
+  -- what comes between is nothing to the two
+  abbrev pub aloof : Bool
+  aloof = none (asideSteps l (m .first) (sends l A w)) && none (asideSteps l (m .second) (sends l B (oneSent l m w)))
+      && none (asideSteps l (m .third) (hears l A (sent l B (oneSent l m w)) (bothSent l m w)))
+
+  abbrev pub oneByOne : List bench.Step
+  oneByOne =
+      (bench.At A chip.Transmit ∷ asideSteps l (m .first) (sends l A w))
+      ++ (bench.At B chip.Transmit ∷ asideSteps l (m .second) (sends l B (oneSent l m w)))
+      ++ (bench.At A (chip.Receive (sent l B (oneSent l m w))) ∷ asideSteps l (m .third) (hears l A (sent l B (oneSent l m w)) (bothSent l m w)))
+      ++ (bench.At B (chip.Receive (sent l A w)) ∷ [])
+
+-- then the four are a joined tick, and else each is a call for itself
 abbrev pub stepsOf : Spots → Boards → Step → List bench.Step
-stepsOf l w Tick = bench.Tick ∷ []
+stepsOf l w (Tick m) = cond (aloof l m w) (bench.Tick ∷ []) (oneByOne l m w)
 stepsOf l w (On k c) = callSteps l k (deedOf k c w)
 
 -- each step where it stands
@@ -151,9 +201,9 @@ reachesSpot p w k c = same k (p .which) && reaches (cabinet k w .board) c (p .ch
 -- == demand 3 ==
 
 -- a set-up, then one joined tick
-abbrev pub begun : Spots → Boards → List Step → Boards
-begun l w us = ticked l (allMoved l w us)
+abbrev pub begun : Spots → Boards → List Step → Between → Boards
+begun l w us m = ticked l m (allMoved l w us)
 
 -- the bench of the two chips from there, with the logs of both ways
-abbrev pub fresh : Spots → Boards → List Step → bench.Bench
-fresh l w us = record { pair = pairOf l (begun l w us); now = 0; there = nothingYet; back = nothingYet }
+abbrev pub fresh : Spots → Boards → List Step → Between → bench.Bench
+fresh l w us m = record { pair = pairOf l (begun l w us m); now = 0; there = nothingYet; back = nothingYet }
