@@ -6,3 +6,4 @@ pub mod Computed
 pub mod OfTheBoard
 pub mod ByChannel
 pub mod Lines
+pub mod TwoUsers

@@ -6,7 +6,7 @@ use mathlib.Core.Path.{_≡_, refl, sym, ap, ap₂, subst, _∙_}
 use mathlib.Core.Bool.{Bool, true, false, cond, not, _&&_, _||_, true≢false}
 use mathlib.Core.List.{List, [], _∷_, _++_, map}
 use lib.Dec.{eqb, ltb}
-use lib.ListN.{length, getD, set, length-set, getD-replicate}
+use lib.ListN.{length, set, length-set, getD-replicate}
 use borrow.Author.Tests.{ltb-false, eqb-true, eqb-false, eq-eqb, ne-eqb, lt-ltb, le-ltb}
 use Rattle.line_rules.specs.declared.Format.{Format}
 use Rattle.line_rules.specs.Sending.{frameLength}
@@ -32,8 +32,8 @@ use Rattle.joined_rules.specs.Demand3.{Settings, Proper, Agree, FromReset, Hold
 use Rattle.joined_rules.specs.Demand3 as demand
 use Rattle.joined_rules.proofs.Promised.{one-way-right, demand-3, bench-sees}
 use Rattle.board_rules.specs.declared.Board.{Board}
-use Rattle.board_rules.specs.Ports.{Call, In, Out, Reset, Pins, Transmit, Receive, Outputs, Interrupts, channelOf, selected, refusal, inRefusal, outRefusal, namedRefusal, roomRefusal, Deed, Refused, Shows, Sets, At, ResetsAll, unless, reading, writing, named, deed}
-use Rattle.board_rules.specs.Runs.{deviceAt, roomBy, asBits, saidBy, boardAfter, roomAfter, said, Cabinet, next}
+use Rattle.board_rules.specs.Ports.{Call, In, Out, Reset, Pins, Transmit, Receive, Outputs, Interrupts, channelOf, selected, refusal, namedRefusal, roomRefusal, Deed, Refused, Shows, Sets, At, ResetsAll, unless, reading, writing, named, deed}
+use Rattle.board_rules.specs.Runs.{deviceAt, roomBy, asBits, saidBy, roomAfter, said, next}
 use Rattle.board_rules.specs.Lines.{Boards, Which, One, Two, same, cabinet, called, told, deedOf, Spot, Spots, spotAt, isAt, deviceOf, pairOf, Joined, Aside, allCalled, Between, Step, Tick, On, sends, sent, hears, oneSent, bothSent, oneHeard, ticked, moved, allMoved, made, madeAt, callSteps, none, asideSteps, aloof, oneByOne, stepsOf, stepsAt, reaches, reachesSpot, begun, fresh}
 
 -- == a room after a call ==
