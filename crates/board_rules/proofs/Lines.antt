@@ -4,7 +4,7 @@ use Prim.Native.Nat.{ℕ, zero, suc, _≤_, _<_}
 use native.Mathlib.Omega.{arith}
 use mathlib.Core.Path.{_≡_, refl, sym, ap, ap₂, subst, _∙_}
 use mathlib.Core.Bool.{Bool, true, false, cond, not, _&&_, _||_, true≢false}
-use mathlib.Core.List.{List, [], _∷_, _++_, map}
+use mathlib.Core.List.{List, [], _∷_, _++_, map, append-assoc}
 use lib.Dec.{eqb, ltb}
 use lib.ListN.{length, set, length-set, getD-replicate}
 use borrow.Author.Tests.{ltb-false, eqb-true, eqb-false, eq-eqb, ne-eqb, lt-ltb, le-ltb}
@@ -501,43 +501,65 @@ of-one l B = rw (same-itself (l .b .which)) (last (same (l .b .which) (l .a .whi
     last true = refl
     last false = refl
 
--- a reset of the board of either channel is first of all a chip reset
-module _ (l : Spots) (w : Boards) (j : Joined l w) (s : Side) (xs : List Step) where
-  abbrev k : Which
-  k = spotAt s l .which
+-- where the last steps are not allowed, wherever they begin, no steps with these at their end are
+stops : (a b : Settings) (e : Bench) (ss ts : List bench.Step) → ((e : Bench) → allAllowed a b e ts ≡ false) → allAllowed a b e (ss ++ ts) ≡ false
+stops a b e [] ts h = h e
+stops a b e (x ∷ ss) ts h = rw (stops a b (bench.step e x) ss ts h) (no-more (demand.allowed a b e x))
 
-  abbrev resetting : List bench.Step
-  resetting = stepsAt l w (On k Reset ∷ xs)
-
-  resets-first : Heads resetting
-  resets-first =
-      let rest : List bench.Step = stepsAt l (called k Reset w) xs in
-      subst (λ (n : ℕ). Heads (callSteps l k (unless (roomRefusal n) ResetsAll) ++ rest)) (sym (j .rooms s)) (one-heads (same k (l .a .which)) (same k (l .b .which)) rest (of-one l s))
-
-  refused-head : (f : List bench.Step → Bool) → ((t : Side) (ys : List bench.Step) → f (bench.At t chip.Reset ∷ ys) ≡ false) → f resetting ≡ false
-  refused-head f h = ap f (resets-first .1 .1) ∙ h (resets-first .0) (resets-first .1 .0)
-
-  pub reset-may-not : (a b : Settings) (e : Bench) → allAllowed a b e resetting ≡ false
-  reset-may-not a b e = refused-head (allAllowed a b e) never
-    where
-      never : (t : Side) (ys : List bench.Step) → allAllowed a b e (bench.At t chip.Reset ∷ ys) ≡ false
-      never A ys = refl
-      never B ys = refl
-
-  pub reset-may-not-one-way : (t : Side) (L : ℕ) (e : Logged Pair) → one-way.allAllowed (wayFrom t) L e resetting ≡ false
-  reset-may-not-one-way t L e = refused-head (one-way.allAllowed (wayFrom t) L e) (never t)
-    where
-      never : (t u : Side) (ys : List bench.Step) → one-way.allAllowed (wayFrom t) L e (bench.At u chip.Reset ∷ ys) ≡ false
-      never A A ys = refl
-      never A B ys = refl
-      never B A ys = refl
-      never B B ys = refl
-
--- == demand 3 ==
+stops-one-way : (s : Side) (L : ℕ) (e : Logged Pair) (ss ts : List bench.Step) → ((e : Logged Pair) → one-way.allAllowed (wayFrom s) L e ts ≡ false)
+    → one-way.allAllowed (wayFrom s) L e (ss ++ ts) ≡ false
+stops-one-way s L e [] ts h = h e
+stops-one-way s L e (x ∷ ss) ts h = rw (stops-one-way s L (one-way.step (wayFrom s) e x) ss ts h) (no-more (one-way.allowed (wayFrom s) L e x))
 
 pub boards-append : (l : Spots) (w : Boards) (xs ys : List Step) → allMoved l w (xs ++ ys) ≡ allMoved l (allMoved l w xs) ys
 boards-append l w [] ys = refl
 boards-append l w (x ∷ xs) ys = boards-append l (moved l w x) xs ys
+
+pub steps-append : (l : Spots) (w : Boards) (xs ys : List Step) → stepsAt l w (xs ++ ys) ≡ stepsAt l w xs ++ stepsAt l (allMoved l w xs) ys
+steps-append l w [] ys = refl
+steps-append l w (x ∷ xs) ys =
+    ap (λ (ss : List bench.Step). stepsOf l w x ++ ss) (steps-append l (moved l w x) xs ys)
+    ∙ sym (append-assoc (stepsOf l w x) (stepsAt l (moved l w x) xs) (stepsAt l (allMoved l (moved l w x) xs) ys))
+
+-- a reset of the board of either channel, behind any steps xs: the first that it is to the two is a chip reset
+module _ (l : Spots) (w : Boards) (j : Joined l w) (xs : List Step) (s : Side) (ys : List Step) where
+  abbrev k : Which
+  k = spotAt s l .which
+
+  abbrev v : Boards
+  v = allMoved l w xs
+
+  abbrev resetting : List bench.Step
+  resetting = stepsAt l v (On k Reset ∷ ys)
+
+  resets-first : Heads resetting
+  resets-first =
+      let rest : List bench.Step = stepsAt l (called k Reset v) ys in
+      subst (λ (n : ℕ). Heads (callSteps l k (unless (roomRefusal n) ResetsAll) ++ rest)) (sym (still-joined-after l w xs j .rooms s)) (one-heads (same k (l .a .which)) (same k (l .b .which)) rest (of-one l s))
+
+  refused-head : (f : List bench.Step → Bool) → ((t : Side) (ss : List bench.Step) → f (bench.At t chip.Reset ∷ ss) ≡ false) → f resetting ≡ false
+  refused-head f h = ap f (resets-first .1 .1) ∙ h (resets-first .0) (resets-first .1 .0)
+
+  pub reset-may-not : (a b : Settings) (e : Bench) → allAllowed a b e (stepsAt l w (xs ++ On k Reset ∷ ys)) ≡ false
+  reset-may-not a b e =
+      ap (allAllowed a b e) (steps-append l w xs (On k Reset ∷ ys)) ∙ stops a b e (stepsAt l w xs) resetting (λ e. refused-head (allAllowed a b e) (never e))
+    where
+      never : (e : Bench) (t : Side) (ss : List bench.Step) → allAllowed a b e (bench.At t chip.Reset ∷ ss) ≡ false
+      never e A ss = refl
+      never e B ss = refl
+
+  pub reset-may-not-one-way : (t : Side) (L : ℕ) (e : Logged Pair) → one-way.allAllowed (wayFrom t) L e (stepsAt l w (xs ++ On k Reset ∷ ys)) ≡ false
+  reset-may-not-one-way t L e =
+      ap (one-way.allAllowed (wayFrom t) L e) (steps-append l w xs (On k Reset ∷ ys))
+      ∙ stops-one-way t L e (stepsAt l w xs) resetting (λ e. refused-head (one-way.allAllowed (wayFrom t) L e) (never t e))
+    where
+      never : (t : Side) (e : Logged Pair) (u : Side) (ss : List bench.Step) → one-way.allAllowed (wayFrom t) L e (bench.At u chip.Reset ∷ ss) ≡ false
+      never A e A ss = refl
+      never A e B ss = refl
+      never B e A ss = refl
+      never B e B ss = refl
+
+-- == demand 3 ==
 
 bench-pair : (e : Bench) (ss : List bench.Step) → bench.runs e ss .pair ≡ bench.allMoved (e .pair) ss
 bench-pair e [] = refl
