@@ -351,7 +351,7 @@ none-made l k e p q = rw (p, q)
 none-at : (p : Spot) (k : Which) (e : Deed) → made (p .channel) e ≡ [] → madeAt p k e ≡ []
 none-at p k e q = either (λ (cs : List chip.Call). cs ≡ []) (same k (p .which)) q refl
 
--- a call that is refused, unless it is this one, makes none if this one makes none
+-- a call that is refused or comes to this makes none if this makes none
 unless-none : (n r : ℕ) (e : Deed) → made n e ≡ [] → made n (unless r e) ≡ []
 unless-none n r e q = either (λ (k : Deed). made n k ≡ []) (eqb r 0) q refl
 
@@ -411,7 +411,7 @@ module _ (b : Board) (room : List Device) (n : ℕ) where
   unreached-none (Outputs channel) h = named-none room channel n chip.Outputs h
   unreached-none Interrupts h = either None (eqb (roomRefusal (length room)) 0) refl refl
 
--- a refusal of the board's own is above the chip's
+-- the chip's own refusals end at 5
 refused-none : (room : List Device) (e : Deed) (n : ℕ) → 5 < saidBy room e .refusal → made n e ≡ []
 refused-none room (Refused r) n h = refl
 refused-none room (Shows v) n h = refl
@@ -450,7 +450,7 @@ module _ (l : Spots) (w : Boards) where
   pub interrupts-no-step : (k : Which) → (stepsOf l w (On k (In 4)) ≡ []) × (stepsOf l w (On k (In 5)) ≡ []) × (stepsOf l w (On k Interrupts) ≡ [])
   interrupts-no-step k = (nowhere k (In 4) (λ n. refl), nowhere k (In 5) (λ n. refl), nowhere k Interrupts (λ n. refl))
 
-  -- a call refused with 8, 9 or 10, wherever it was for; the chip's own numbers end at 5
+  -- a call refused with 8, 9 or 10, wherever it was for
   pub refused-no-step : (k : Which) (c : Call) → 5 < said (cabinet k w .board) (cabinet k w .room) c .refusal → stepsOf l w (On k c) ≡ []
   unfolding said
   refused-no-step k c h =
