@@ -5,13 +5,7 @@
 #include "ins2651.h"
 #include "ins2651.h" /* it may be included twice */
 
-static int failures = 0;
-
-static void holds(int fact, const char *what) {
-    if (fact) return;
-    printf("header: %s\n", what);
-    failures++;
-}
+#include "held.h"
 
 static int status(ins2651 *chip) { return INS2651_VALUE(ins2651_read(chip, INS2651_STATUS)); }
 
@@ -222,15 +216,6 @@ static void refusal_names(void) {
 }
 
 /* == a device's bytes == */
-
-/* Field by field: each byte but the padding, as the header has their places. */
-static int same(const ins2651 *a, const ins2651 *b) {
-    const unsigned char *x = (const unsigned char *)a;
-    const unsigned char *y = (const unsigned char *)b;
-    for (size_t i = 0; i < sizeof *a; i++)
-        if (i != 23 && i != 37 && i != 43 && x[i] != y[i]) return 0;
-    return 1;
-}
 
 static void beginnings(void) {
     static struct ins2651 zeroed;
