@@ -12,7 +12,6 @@ use Rattle.line_rules.proofs.Choice.{either}
 use Rattle.ins2651_rules.specs.declared.Device.{Device}
 use Rattle.ins2651_rules.specs.Runs as chip
 use Rattle.board_rules.specs.declared.Board.{Board}
-use Rattle.board_rules.specs.Interrupts.{transmitStatus, receiveStatus}
 use Rattle.board_rules.specs.Ports.{Call, In, Out, Reset, Pins, Transmit, Receive, Outputs, Interrupts, Deed, Refused, Shows, Sets, At, ResetsAll, channelOf, withSelect, withTransmitMask, withReceiveMask, inRefusal, outRefusal, namedRefusal, unless, reading, writing, deed}
 use Rattle.board_rules.specs.Runs.{deviceAt, boardBy, saidBy, boardAfter, roomAfter, said}
 use Rattle.board_rules.specs.Channels.{reaches, callsBy, shown}
@@ -65,7 +64,7 @@ no-status port v w t u e h = go (eqb port 4) (eqb port 5) h
 same-deed : (b : Board) (r s : List Device) (c : Call) (k : ℕ) → length r ≡ length s → about b c k ≡ true → deed b r c ≡ deed b s c
 same-deed b r s (In port) k l h =
     ap₂ unless (ap (λ (n : ℕ). inRefusal b n port) l)
-    (no-status port (transmitStatus r) (receiveStatus r) (transmitStatus s) (receiveStatus s) (At (channelOf b) (chip.Read port)) (both (not (statusPort port)) (eqb (channelOf b) k) h .0))
+    (no-status port _ _ _ _ (At (channelOf b) (chip.Read port)) (both (not (statusPort port)) (eqb (channelOf b) k) h .0))
 same-deed b r s (Out port v) k l h = ap (λ (n : ℕ). unless (outRefusal b n port) (writing b port v)) l
 same-deed b r s Reset k l h = absurd (true≢false (sym h))
 same-deed b r s (Pins channel dsr dcd cts) k l h = ap (λ (n : ℕ). unless (namedRefusal n channel) (At channel (chip.SetPins dsr dcd cts))) l
@@ -87,6 +86,10 @@ unreached-by k j (Shows v) d h = refl
 unreached-by k j (Sets b) d h = refl
 unreached-by k j (At i c) d h = ne-eqb i j (λ e. d (sym (eqb-true i k h) ∙ e))
 unreached-by k j ResetsAll d h = absurd (true≢false (sym h))
+
+-- a call that is about a channel makes none of the chip's at another
+pub about-one : (b : Board) (room : List Device) (c : Call) (k j : ℕ) → about b c k ≡ true → (k ≡ j → ⊥) → reaches j (deed b room c) ≡ false
+about-one b room c k j h n = unreached-by k j (deed b room c) n (about-at b room c k h)
 
 -- == the promises ==
 
@@ -112,4 +115,4 @@ answer-depends-on-one b r s c k l d h =
 
 -- .. and leaves every other channel as it was
 pub no-other-changes : (b : Board) (room : List Device) (c : Call) (k j : ℕ) → about b c k ≡ true → (k ≡ j → ⊥) → deviceAt (roomAfter b room c) j ≡ deviceAt room j
-no-other-changes b room c k j h n = unreached-stays b room c j (unreached-by k j (deed b room c) n (about-at b room c k h))
+no-other-changes b room c k j h n = unreached-stays b room c j (about-one b room c k j h n)

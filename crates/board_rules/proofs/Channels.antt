@@ -1,6 +1,6 @@
 -- Each channel of a board is a chip: over every run of board calls it goes and answers as the chip does over the calls that reach it.
 -- Assumes nothing.
-use Prim.Native.Nat.{ℕ, zero, suc}
+use Prim.Native.Nat.{ℕ, zero, suc, _<_}
 use native.Mathlib.Omega.{arith}
 use mathlib.Core.Path.{_≡_, refl, sym, ap, ap₂, subst, _∙_}
 use mathlib.Core.Bool.{Bool, true, false, cond, not, _&&_, _||_}
@@ -8,7 +8,7 @@ use mathlib.Core.List.{List, [], _∷_, _++_, map}
 use lib.Dec.{eqb, ltb}
 use lib.ListN.{length, getD, set, replicate, length-set}
 use lib.Seq.{getD-set-same, getD-set-other}
-use borrow.Author.Tests.{ltb-true, ltb-false, lt-ltb, ne-eqb, eqb-true, eqb-false}
+use borrow.Author.Tests.{ltb-true, ltb-false, lt-ltb, le-ltb, ne-eqb, eqb-true, eqb-false}
 use Rattle.line_rules.proofs.Choice.{either, each}
 use Rattle.ins2651_rules.specs.declared.Device.{Device}
 use Rattle.ins2651_rules.specs.Shape.{resetDevice}
@@ -16,7 +16,7 @@ use Rattle.ins2651_rules.specs.Runs as chip
 use Rattle.board_rules.specs.declared.Board.{Board}
 use Rattle.board_rules.specs.Interrupts.{transmitLines, receiveLines, bothBytes}
 use Rattle.board_rules.specs.Ports.{Call, In, Out, Reset, Pins, Transmit, Receive, Outputs, Interrupts, Deed, Refused, Shows, Sets, At, ResetsAll, channelOf, selected, refusal, unless, reading, writing, named, deed}
-use Rattle.board_rules.specs.Runs.{deviceAt, roomBy, saidBy, Said, roomAfter, said, Cabinet, next, after}
+use Rattle.board_rules.specs.Runs.{deviceAt, roomBy, asBits, saidBy, Said, roomAfter, said, Cabinet, next, after}
 use Rattle.board_rules.specs.Channels.{reaches, callsBy, shown, callsAt, answersAt}
 
 -- == what a call comes to stands in its room ==
@@ -86,7 +86,7 @@ device-by room (At j c) k h =
     (λ t. getD-set-other room j k _ resetDevice (λ e. eqb-false j k t (sym e)))
 device-by room ResetsAll k h = each-reset 8 k
 
-unreached : (k : ℕ) (e : Deed) → reaches k e ≡ false → callsBy k e ≡ []
+pub unreached : (k : ℕ) (e : Deed) → reaches k e ≡ false → callsBy k e ≡ []
 unreached k (Refused n) h = refl
 unreached k (Shows v) h = refl
 unreached k (Sets b) h = refl
@@ -127,9 +127,32 @@ module _ (b : Board) (room : List Device) (c : Call) where
   unfolding said
   channel-answers k = answers-by room (deed b room c) k
 
+-- a byte or a level is shown as itself
+pub one-shown : (x : ℕ) → asBits (x ∷ []) ≡ x
+one-shown x = omega arith
+
+-- ports 0 to 3 of a selected board are the selected channel's registers
+module _ (b : Board) (room : List Device) (eight : length room ≡ 8) (on : selected b ≡ true) (port : ℕ) (low : port < 4) where
+  pub read-reaches : deed b room (In port) ≡ At (channelOf b) (chip.Read port)
+  read-reaches =
+      let z : ltb 5 port ≡ false = le-ltb 5 port (omega arith) in
+      let u : eqb port 4 ≡ false = ne-eqb port 4 (λ e. omega arith) in
+      let v : eqb port 5 ≡ false = ne-eqb port 5 (λ e. omega arith) in
+      rw (eight, z, on, u, v)
+
+  pub write-reaches : (v : ℕ) → deed b room (Out port v) ≡ At (channelOf b) (chip.Write port v)
+  write-reaches x =
+      let z : ltb 7 port ≡ false = le-ltb 7 port (omega arith) in
+      let t : eqb port 6 ≡ false = ne-eqb port 6 (λ e. omega arith) in
+      let u : eqb port 4 ≡ false = ne-eqb port 4 (λ e. omega arith) in
+      let v : eqb port 5 ≡ false = ne-eqb port 5 (λ e. omega arith) in
+      let y : eqb port 7 ≡ false = ne-eqb port 7 (λ e. omega arith) in
+      let q : ltb port 6 ≡ true = lt-ltb port 6 (omega arith) in
+      rw (eight, z, t, q, on, u, v, y)
+
 -- == runs ==
 
--- .. and after a run
+-- a room has as many after a run
 pub room-stays-through : (w : Cabinet) (cs : List Call) → length (after w cs .room) ≡ length (w .room)
 room-stays-through w [] = refl
 room-stays-through w (c ∷ cs) = room-stays-through (next w c) cs ∙ room-stays (w .board) (w .room) c

@@ -1,19 +1,18 @@
 -- Demand 3 for two channels joined by a line, of one board or of two: they run as the pair of `joined_rules`, so that what holds of it holds of them.
 -- Assumes nothing.
-use Prim.Native.Nat.{ℕ, zero, suc, _≤_, _<_}
+use Prim.Native.Nat.{ℕ, suc, _<_}
 use native.Mathlib.Omega.{arith}
 use mathlib.Core.Path.{_≡_, refl, sym, ap, ap₂, subst, _∙_}
-use mathlib.Core.Bool.{Bool, true, false, cond, not, _&&_, _||_, true≢false}
+use mathlib.Core.Bool.{Bool, true, false, cond, _&&_, _||_, true≢false, and-false, or-true}
 use mathlib.Core.List.{List, [], _∷_, _++_, map, append-assoc}
 use lib.Dec.{eqb, ltb}
-use lib.ListN.{length, set, length-set, getD-replicate}
-use borrow.Author.Tests.{ltb-false, eqb-true, eqb-false, eq-eqb, ne-eqb, lt-ltb, le-ltb}
+use lib.ListN.{length}
+use borrow.Author.Tests.{eqb-true, eqb-false, eq-eqb, ne-eqb, le-ltb}
 use Rattle.line_rules.specs.declared.Format.{Format}
 use Rattle.line_rules.specs.Sending.{frameLength}
-use Rattle.line_rules.proofs.Choice.{all, either, each, neither}
+use Rattle.line_rules.proofs.Choice.{all, either, each}
 use Rattle.line_rules.proofs.Table.{both}
 use Rattle.ins2651_rules.specs.declared.Device.{Device}
-use Rattle.ins2651_rules.specs.Shape.{resetDevice}
 use Rattle.ins2651_rules.specs.Modes.{sendFormat}
 use Rattle.ins2651_rules.specs.RegisterReads.{read}
 use Rattle.ins2651_rules.specs.Ticks.{transmit}
@@ -24,6 +23,7 @@ use Rattle.delivery.specs.OneWay.{Logged, noLog}
 use Rattle.delivery.specs.OneWay as one-way
 use Rattle.delivery.specs.Promise.{Promised}
 use Rattle.delivery.specs.Joined.{Side, A, B}
+use Rattle.delivery.proofs.Lists.{allowed-append}
 use Rattle.joined_rules.specs.declared.Pair.{Pair}
 use Rattle.joined_rules.specs.Joining as joining
 use Rattle.joined_rules.specs.Bench.{wayFrom, Bench}
@@ -32,63 +32,31 @@ use Rattle.joined_rules.specs.Demand3.{Settings, Proper, Agree, FromReset, Hold
 use Rattle.joined_rules.specs.Demand3 as demand
 use Rattle.joined_rules.proofs.Promised.{one-way-right, demand-3, bench-sees}
 use Rattle.board_rules.specs.declared.Board.{Board}
-use Rattle.board_rules.specs.Ports.{Call, In, Out, Reset, Pins, Transmit, Receive, Outputs, Interrupts, channelOf, selected, refusal, namedRefusal, roomRefusal, Deed, Refused, Shows, Sets, At, ResetsAll, unless, reading, writing, named, deed}
-use Rattle.board_rules.specs.Runs.{deviceAt, roomBy, asBits, saidBy, roomAfter, said, next}
-use Rattle.board_rules.specs.Lines.{Boards, Which, One, Two, same, cabinet, called, told, deedOf, Spot, Spots, spotAt, isAt, deviceOf, pairOf, Joined, Aside, allCalled, Between, Step, Tick, On, sends, sent, hears, oneSent, bothSent, oneHeard, ticked, moved, allMoved, made, madeAt, callSteps, none, asideSteps, aloof, oneByOne, stepsOf, stepsAt, reaches, reachesSpot, begun, fresh}
-
--- == a room after a call ==
-
-put-there : (room : List Device) (n : ℕ) (d : Device) → n < length room → deviceAt (set room n d) n ≡ d
-put-there [] n d h = absurd (omega arith)
-put-there (x ∷ room) zero d h = refl
-put-there (x ∷ room) (suc n) d h = put-there room n d (omega arith)
-
-put-elsewhere : (room : List Device) (m n : ℕ) (d : Device) → (m ≡ n → ⊥) → deviceAt (set room m d) n ≡ deviceAt room n
-put-elsewhere [] m n d h = refl
-put-elsewhere (x ∷ room) zero zero d h = absurd (h refl)
-put-elsewhere (x ∷ room) zero (suc n) d h = refl
-put-elsewhere (x ∷ room) (suc m) zero d h = refl
-put-elsewhere (x ∷ room) (suc m) (suc n) d h = put-elsewhere room m n d (λ e. h (ap suc e))
-
--- a channel of eight has had the calls that were made at it
-channel-after : (room : List Device) (n : ℕ) (e : Deed) → n < 8 → length room ≡ 8 → deviceAt (roomBy room e) n ≡ chip.after (deviceAt room n) (made n e)
-channel-after room n (Refused r) h q = refl
-channel-after room n (Shows v) h q = refl
-channel-after room n (Sets b) h q = refl
-channel-after room n (At m c) h q =
-    each (λ (cs : List chip.Call). deviceAt (set room m (chip.next (deviceAt room m) c)) n ≡ chip.after (deviceAt room n) cs) (eqb m n)
-    (λ t. let z : m ≡ n = eqb-true m n t in
-    subst (λ (k : ℕ). deviceAt (set room k (chip.next (deviceAt room k) c)) n ≡ chip.next (deviceAt room n) c) (sym z) (put-there room n (chip.next (deviceAt room n) c) (omega (arith, q))))
-    (λ t. put-elsewhere room m n (chip.next (deviceAt room m) c) (eqb-false m n t))
-channel-after room n ResetsAll h q = getD-replicate 8 n resetDevice resetDevice h
-
-still-eight : (room : List Device) (e : Deed) → length room ≡ 8 → length (roomBy room e) ≡ 8
-still-eight room (Refused r) q = q
-still-eight room (Shows v) q = q
-still-eight room (Sets b) q = q
-still-eight room (At m c) q = length-set room m (chip.next (deviceAt room m) c) ∙ q
-still-eight room ResetsAll q = refl
+use Rattle.board_rules.specs.Ports.{Call, In, Out, Reset, Transmit, Receive, Interrupts, channelOf, selected, inRefusal, roomRefusal, Deed, Refused, Shows, Sets, At, ResetsAll, unless, named, deed}
+use Rattle.board_rules.specs.Runs.{deviceAt, asBits, saidBy, said}
+use Rattle.board_rules.specs.Channels.{reaches, callsBy}
+use Rattle.board_rules.specs.About.{about}
+use Rattle.board_rules.specs.Lines.{Boards, Which, One, Two, same, cabinet, called, told, deedOf, Spot, Spots, spotAt, isAt, deviceOf, pairOf, Joined, Aside, allCalled, Between, Step, Tick, On, sends, sent, hears, oneSent, bothSent, oneHeard, ticked, moved, allMoved, reachesSpot, madeAt, callSteps, none, asideSteps, aloof, oneByOne, stepsOf, stepsAt, begun, fresh}
+use Rattle.board_rules.proofs.Channels.{channel-after, room-stays, unreached, one-shown, read-reaches, write-reaches}
+use Rattle.board_rules.proofs.Alone.{about-one}
 
 -- == the boards after a call ==
 
 eight-called : (j k : Which) (c : Call) (w : Boards) → length (cabinet j w .room) ≡ 8 → length (cabinet j (called k c w) .room) ≡ 8
-unfolding roomAfter
-eight-called One One c w q = still-eight (w .one .room) (deedOf One c w) q
+eight-called One One c w q = room-stays (w .one .board) (w .one .room) c ∙ q
 eight-called One Two c w q = q
 eight-called Two One c w q = q
-eight-called Two Two c w q = still-eight (w .two .room) (deedOf Two c w) q
+eight-called Two Two c w q = room-stays (w .two .board) (w .two .room) c ∙ q
 
-called-device : (p : Spot) (k : Which) (c : Call) (w : Boards) → p .channel < 8 → length (cabinet (p .which) w .room) ≡ 8
-    → deviceOf p (called k c w) ≡ chip.after (deviceOf p w) (madeAt p k (deedOf k c w))
-unfolding roomAfter
-called-device p k c w h q = go (p .which) k q
+called-device : (p : Spot) (k : Which) (c : Call) (w : Boards) → deviceOf p (called k c w) ≡ chip.after (deviceOf p w) (madeAt p k (deedOf k c w))
+called-device p k c w = go (p .which) k
   where
-    go : (j k : Which) → length (cabinet j w .room) ≡ 8
-        → deviceAt (cabinet j (called k c w) .room) (p .channel) ≡ chip.after (deviceAt (cabinet j w .room) (p .channel)) (cond (same k j) (made (p .channel) (deedOf k c w)) [])
-    go One One q = channel-after (w .one .room) (p .channel) (deedOf One c w) h q
-    go One Two q = refl
-    go Two One q = refl
-    go Two Two q = channel-after (w .two .room) (p .channel) (deedOf Two c w) h q
+    go : (j k : Which) → deviceAt (cabinet j (called k c w) .room) (p .channel)
+        ≡ chip.after (deviceAt (cabinet j w .room) (p .channel)) (cond (same k j) (callsBy (p .channel) (deedOf k c w)) [])
+    go One One = channel-after (w .one .board) (w .one .room) c (p .channel)
+    go One Two = refl
+    go Two One = refl
+    go Two Two = channel-after (w .two .board) (w .two .room) c (p .channel)
 
 pub still-joined : (l : Spots) (w : Boards) (k : Which) (c : Call) → Joined l w → Joined l (called k c w)
 still-joined l w k c j = record { apart = j .apart; there = j .there; rooms = λ s. eight-called (spotAt s l .which) k c w (j .rooms s) }
@@ -108,9 +76,9 @@ pair-append p [] ys = refl
 pair-append p (x ∷ xs) ys = pair-append (bench.moved p x) xs ys
 
 -- a call moves the two as the chip calls that it makes at them
-pub call-as-pair : (l : Spots) (w : Boards) (k : Which) (c : Call) → Joined l w → pairOf l (called k c w) ≡ bench.allMoved (pairOf l w) (callSteps l k (deedOf k c w))
-call-as-pair l w k c j =
-    ap₂ (λ (d e : Device). record { a = d; b = e }) (called-device (l .a) k c w (j .there A) (j .rooms A)) (called-device (l .b) k c w (j .there B) (j .rooms B))
+pub call-as-pair : (l : Spots) (w : Boards) (k : Which) (c : Call) → pairOf l (called k c w) ≡ bench.allMoved (pairOf l w) (callSteps l k (deedOf k c w))
+call-as-pair l w k c =
+    ap₂ (λ (d e : Device). record { a = d; b = e }) (called-device (l .a) k c w) (called-device (l .b) k c w)
     ∙ sym (both-moved (pairOf l w) (madeAt (l .a) k (deedOf k c w)) (madeAt (l .b) k (deedOf k c w)))
 
 -- == a call at one of the two channels ==
@@ -139,12 +107,9 @@ own-spot p = all (same-itself (p .which)) (eq-eqb (p .channel) (p .channel) refl
 made-at : (p : Spot) (k : Which) (n : ℕ) (c : chip.Call) → madeAt p k (At n c) ≡ cond (isAt k n p) (c ∷ []) []
 made-at p k n c = go (same k (p .which))
   where
-    go : (b : Bool) → cond b (made (p .channel) (At n c)) [] ≡ cond (b && eqb n (p .channel)) (c ∷ []) []
+    go : (b : Bool) → cond b (callsBy (p .channel) (At n c)) [] ≡ cond (b && eqb n (p .channel)) (c ∷ []) []
     go true = refl
     go false = refl
-
-alone : (x : ℕ) → asBits (x ∷ []) ≡ x
-alone x = omega arith
 
 module _ (l : Spots) (w : Boards) (j : Joined l w) where
   side-steps : (s : Side) (c : chip.Call) → callSteps l (spotAt s l .which) (At (spotAt s l .channel) c) ≡ bench.At s c ∷ []
@@ -163,7 +128,7 @@ module _ (l : Spots) (w : Boards) (j : Joined l w) where
   side-called : (s : Side) (c : Call) (d : chip.Call) → deedOf (spotAt s l .which) c w ≡ At (spotAt s l .channel) d
       → pairOf l (called (spotAt s l .which) c w) ≡ bench.moved (pairOf l w) (bench.At s d)
   side-called s c d e =
-      call-as-pair l w (spotAt s l .which) c j ∙ ap (λ (k : Deed). bench.allMoved (pairOf l w) (callSteps l (spotAt s l .which) k)) e
+      call-as-pair l w (spotAt s l .which) c ∙ ap (λ (k : Deed). bench.allMoved (pairOf l w) (callSteps l (spotAt s l .which) k)) e
       ∙ ap (bench.allMoved (pairOf l w)) (side-steps s d)
 
   side-sends : (s : Side) → pairOf l (sends l s w) ≡ bench.moved (pairOf l w) (bench.At s chip.Transmit)
@@ -183,7 +148,7 @@ module _ (l : Spots) (w : Boards) (j : Joined l w) where
       shown B = refl
 
   level-sent : (s : Side) → sent l s w ≡ transmit (bench.deviceAt s (pairOf l w)) .level
-  level-sent s = side-told s (Transmit (spotAt s l .channel)) chip.Transmit (side-named s chip.Transmit) ∙ alone (transmit (bench.deviceAt s (pairOf l w)) .level)
+  level-sent s = side-told s (Transmit (spotAt s l .channel)) chip.Transmit (side-named s chip.Transmit) ∙ one-shown (transmit (bench.deviceAt s (pairOf l w)) .level)
 
   -- while a channel is selected, the ports 0 to 3 are its registers
   module _ (s : Side) (on : selected (cabinet (spotAt s l .which) w .board) ≡ true) (here : channelOf (cabinet (spotAt s l .which) w .board) ≡ spotAt s l .channel)
@@ -195,21 +160,10 @@ module _ (l : Spots) (w : Boards) (j : Joined l w) where
     room = cabinet (spotAt s l .which) w .room
 
     in-deed : deed b room (In port) ≡ At (spotAt s l .channel) (chip.Read port)
-    in-deed =
-        let z : ltb 5 port ≡ false = le-ltb 5 port (omega arith) in
-        let u : eqb port 4 ≡ false = ne-eqb port 4 (λ e. omega arith) in
-        let v : eqb port 5 ≡ false = ne-eqb port 5 (λ e. omega arith) in
-        rw (j .rooms s, z, on, u, v) (ap (λ (k : ℕ). At k (chip.Read port)) here)
+    in-deed = read-reaches b room (j .rooms s) on port low ∙ ap (λ (k : ℕ). At k (chip.Read port)) here
 
     out-deed : (v : ℕ) → deed b room (Out port v) ≡ At (spotAt s l .channel) (chip.Write port v)
-    out-deed x =
-        let z : ltb 7 port ≡ false = le-ltb 7 port (omega arith) in
-        let t : eqb port 6 ≡ false = ne-eqb port 6 (λ e. omega arith) in
-        let u : eqb port 4 ≡ false = ne-eqb port 4 (λ e. omega arith) in
-        let v : eqb port 5 ≡ false = ne-eqb port 5 (λ e. omega arith) in
-        let y : eqb port 7 ≡ false = ne-eqb port 7 (λ e. omega arith) in
-        let q : ltb port 6 ≡ true = lt-ltb port 6 (omega arith) in
-        rw (j .rooms s, z, t, q, on, u, v, y) (ap (λ (k : ℕ). At k (chip.Write port x)) here)
+    out-deed v = write-reaches b room (j .rooms s) on port low v ∙ ap (λ (k : ℕ). At k (chip.Write port v)) here
 
     pub selected-reads : stepsOf l w (On (spotAt s l .which) (In port)) ≡ bench.At s (chip.Read port) ∷ []
     selected-reads = ap (callSteps l (spotAt s l .which)) in-deed ∙ side-steps s (chip.Read port)
@@ -218,7 +172,7 @@ module _ (l : Spots) (w : Boards) (j : Joined l w) where
     selected-writes v = ap (callSteps l (spotAt s l .which)) (out-deed v) ∙ side-steps s (chip.Write port v)
 
     pub selected-told : told (spotAt s l .which) (In port) w ≡ read (bench.deviceAt s (pairOf l w)) port .value
-    selected-told = side-told s (In port) (chip.Read port) in-deed ∙ alone (read (bench.deviceAt s (pairOf l w)) port .value)
+    selected-told = side-told s (In port) (chip.Read port) in-deed ∙ one-shown (read (bench.deviceAt s (pairOf l w)) port .value)
 
 -- == a joined tick ==
 
@@ -230,11 +184,11 @@ asides-joined l (x ∷ xs) w j = asides-joined l xs (called (x .which) (x .call)
 onward : (p : Pair) {q r : Pair} (xs ys : List bench.Step) → q ≡ bench.allMoved p xs → r ≡ bench.allMoved q ys → r ≡ bench.allMoved p (xs ++ ys)
 onward p xs ys e f = f ∙ ap (λ (q : Pair). bench.allMoved q ys) e ∙ sym (pair-append p xs ys)
 
-asides-as-pair : (l : Spots) (xs : List Aside) (w : Boards) → Joined l w → pairOf l (allCalled xs w) ≡ bench.allMoved (pairOf l w) (asideSteps l xs w)
-asides-as-pair l [] w j = refl
-asides-as-pair l (x ∷ xs) w j =
-    onward (pairOf l w) (callSteps l (x .which) (deedOf (x .which) (x .call) w)) (asideSteps l xs (called (x .which) (x .call) w)) (call-as-pair l w (x .which) (x .call) j)
-    (asides-as-pair l xs (called (x .which) (x .call) w) (still-joined l w (x .which) (x .call) j))
+asides-as-pair : (l : Spots) (xs : List Aside) (w : Boards) → pairOf l (allCalled xs w) ≡ bench.allMoved (pairOf l w) (asideSteps l xs w)
+asides-as-pair l [] w = refl
+asides-as-pair l (x ∷ xs) w =
+    onward (pairOf l w) (callSteps l (x .which) (deedOf (x .which) (x .call) w)) (asideSteps l xs (called (x .which) (x .call) w)) (call-as-pair l w (x .which) (x .call))
+    (asides-as-pair l xs (called (x .which) (x .call) w))
 
 none-is : (ss : List bench.Step) → none ss ≡ true → ss ≡ []
 none-is [] h = refl
@@ -288,13 +242,13 @@ module _ (l : Spots) (m : Between) (w : Boards) (j : Joined l w) where
 
   -- each of the four calls with what comes behind it
   one-is : pairOf l one ≡ bench.allMoved (pairOf l w) (bench.At A chip.Transmit ∷ first)
-  one-is = onward (pairOf l w) (bench.At A chip.Transmit ∷ []) first (side-sends l w j A) (asides-as-pair l (m .first) (sends l A w) joined-sent)
+  one-is = onward (pairOf l w) (bench.At A chip.Transmit ∷ []) first (side-sends l w j A) (asides-as-pair l (m .first) (sends l A w))
 
   two-is : pairOf l two ≡ bench.allMoved (pairOf l one) (bench.At B chip.Transmit ∷ second)
-  two-is = onward (pairOf l one) (bench.At B chip.Transmit ∷ []) second (side-sends l one joined-one B) (asides-as-pair l (m .second) (sends l B one) joined-both)
+  two-is = onward (pairOf l one) (bench.At B chip.Transmit ∷ []) second (side-sends l one joined-one B) (asides-as-pair l (m .second) (sends l B one))
 
   three-is : pairOf l three ≡ bench.allMoved (pairOf l two) (bench.At A (chip.Receive y) ∷ third)
-  three-is = onward (pairOf l two) (bench.At A (chip.Receive y) ∷ []) third (side-hears l two joined-two A y) (asides-as-pair l (m .third) (hears l A y two) joined-heard)
+  three-is = onward (pairOf l two) (bench.At A (chip.Receive y) ∷ []) third (side-hears l two joined-two A y) (asides-as-pair l (m .third) (hears l A y two))
 
   one-by-one : pairOf l (ticked l m w) ≡ bench.allMoved (pairOf l w) (oneByOne l m w)
   one-by-one =
@@ -330,7 +284,7 @@ moved-joined l w (On k c) j = still-joined l w k c j
 pub step-as-pair : (l : Spots) (w : Boards) (x : Step) → Joined l w → pairOf l (moved l w x) ≡ bench.allMoved (pairOf l w) (stepsOf l w x)
 step-as-pair l w (Tick m) j =
     each (λ (ss : List bench.Step). pairOf l (ticked l m w) ≡ bench.allMoved (pairOf l w) ss) (aloof l m w) (tick-as-pair l m w j) (λ t. one-by-one l m w j)
-step-as-pair l w (On k c) j = call-as-pair l w k c j
+step-as-pair l w (On k c) j = call-as-pair l w k c
 
 -- after any list of steps, the two channels are the pair after what the steps are to it
 pub runs-as-pair : (l : Spots) (w : Boards) (xs : List Step) → Joined l w → pairOf l (allMoved l w xs) ≡ bench.allMoved (pairOf l w) (stepsAt l w xs)
@@ -348,114 +302,63 @@ still-joined-after l w (x ∷ xs) j = still-joined-after l (moved l w x) xs (mov
 none-made : (l : Spots) (k : Which) (e : Deed) → madeAt (l .a) k e ≡ [] → madeAt (l .b) k e ≡ [] → callSteps l k e ≡ []
 none-made l k e p q = rw (p, q)
 
-none-at : (p : Spot) (k : Which) (e : Deed) → made (p .channel) e ≡ [] → madeAt p k e ≡ []
-none-at p k e q = either (λ (cs : List chip.Call). cs ≡ []) (same k (p .which)) q refl
-
--- a call that is refused or comes to this makes none if this makes none
-unless-none : (n r : ℕ) (e : Deed) → made n e ≡ [] → made n (unless r e) ≡ []
-unless-none n r e q = either (λ (k : Deed). made n k ≡ []) (eqb r 0) q refl
-
-at-none : (m n : ℕ) (c : chip.Call) → eqb m n ≡ false → made n (At m c) ≡ []
-at-none m n c h = rw h
-
-named-none : (room : List Device) (m n : ℕ) (c : chip.Call) → eqb m n ≡ false → made n (named room m c) ≡ []
-named-none room m n c h = unless-none n (namedRefusal (length room) m) (At m c) (at-none m n c h)
-
-absent-none : (n channels : ℕ) (elsewhere : Bool) (e : Deed) → made n (unless (refusal channels true elsewhere) e) ≡ []
-absent-none n channels elsewhere e = either (λ (r : ℕ). made n (unless r e) ≡ []) (eqb channels 8) refl refl
-
-below : (port : ℕ) → port ≤ 5 → (port ≡ 4 → ⊥) → (port ≡ 5 → ⊥) → port < 4
-below port h p q = omega arith
-
-upto : (port : ℕ) → port ≤ 7 → (port ≡ 6 → ⊥) → (port ≡ 7 → ⊥) → port ≤ 5
-upto port h p q = omega arith
-
--- of a channel that the call does not reach
-module _ (b : Board) (room : List Device) (n : ℕ) where
-  abbrev None : Deed → Type 0
-  None e = made n e ≡ []
-
-  -- a port below 4 is the selected channel's
-  register-none : (port : ℕ) (c : chip.Call) → port < 4 → (ltb port 4 && eqb (channelOf b) n) ≡ false → None (At (channelOf b) c)
-  register-none port c h q = at-none (channelOf b) n c (rw (lt-ltb port 4 h) at q)
-
-  in-none : (port : ℕ) → reaches b (In port) n ≡ false → None (deed b room (In port))
-  in-none port h = go (ltb 5 port) refl
-    where
-      go : (absent : Bool) → ltb 5 port ≡ absent → None (unless (refusal (length room) absent (not (selected b))) (reading b room port))
-      go true e = absent-none n (length room) (not (selected b)) (reading b room port)
-      go false e =
-          unless-none n (refusal (length room) false (not (selected b))) (reading b room port)
-          (each None (eqb port 4) (λ t. refl) λ t. each None (eqb port 5) (λ u. refl) λ u.
-          register-none port (chip.Read port) (below port (ltb-false 5 port e) (eqb-false port 4 t) (eqb-false port 5 u)) h)
-
-  out-none : (port v : ℕ) → reaches b (Out port v) n ≡ false → None (deed b room (Out port v))
-  out-none port v h = go (eqb port 6 || ltb 7 port) refl
-    where
-      go : (absent : Bool) → (eqb port 6 || ltb 7 port) ≡ absent
-          → None (unless (refusal (length room) absent (ltb port 6 && not (selected b))) (writing b port v))
-      go true e = absent-none n (length room) (ltb port 6 && not (selected b)) (writing b port v)
-      go false e =
-          let z = neither (eqb port 6) (ltb 7 port) e in
-          unless-none n (refusal (length room) false (ltb port 6 && not (selected b))) (writing b port v)
-          (each None (eqb port 4) (λ t. refl) λ t. each None (eqb port 5) (λ u. refl) λ u. each None (eqb port 7) (λ s. refl) λ s.
-          register-none port (chip.Write port v) (below port (upto port (ltb-false 7 port (z .1)) (eqb-false port 6 (z .0)) (eqb-false port 7 s)) (eqb-false port 4 t) (eqb-false port 5 u)) h)
-
-  unreached-none : (c : Call) → reaches b c n ≡ false → None (deed b room c)
-  unreached-none (In port) h = in-none port h
-  unreached-none (Out port v) h = out-none port v h
-  unreached-none Reset h = absurd (true≢false h)
-  unreached-none (Pins channel dsr dcd cts) h = named-none room channel n (chip.SetPins dsr dcd cts) h
-  unreached-none (Transmit channel) h = named-none room channel n chip.Transmit h
-  unreached-none (Receive channel x) h = named-none room channel n (chip.Receive x) h
-  unreached-none (Outputs channel) h = named-none room channel n chip.Outputs h
-  unreached-none Interrupts h = either None (eqb (roomRefusal (length room)) 0) refl refl
+none-at : (p : Spot) (k : Which) (e : Deed) → reachesSpot p k e ≡ false → madeAt p k e ≡ []
+none-at p k e h = each (λ (cs : List chip.Call). cs ≡ []) (same k (p .which)) (λ t. unreached (p .channel) e (rw t at h)) (λ t. refl)
 
 -- the chip's own refusals end at 5
-refused-none : (room : List Device) (e : Deed) (n : ℕ) → 5 < saidBy room e .refusal → made n e ≡ []
+refused-none : (room : List Device) (e : Deed) (n : ℕ) → 5 < saidBy room e .refusal → reaches n e ≡ false
 refused-none room (Refused r) n h = refl
 refused-none room (Shows v) n h = refl
-refused-none room (Sets b′) n h = refl
+refused-none room (Sets b) n h = refl
 refused-none room (At m c) n h =
     absurd (omega (arith, h, answers-refusal (deviceAt room m) c, given-exactly (deviceAt room m) c .most))
 refused-none room ResetsAll n h = absurd (omega arith)
 
-no-more : (t : Bool) → (t && false) ≡ false
-no-more true = refl
-no-more false = refl
-
 module _ (l : Spots) (w : Boards) where
-  -- a call to another board or at another channel, whatever it is; a select write, a mask, a look at the interrupts; pins, ticks and outputs of
-  -- another channel: none of them reaches the two
-  pub unreached-no-step : (k : Which) (c : Call) → reachesSpot (l .a) w k c ≡ false → reachesSpot (l .b) w k c ≡ false → stepsOf l w (On k c) ≡ []
-  unreached-no-step k c p q = none-made l k (deedOf k c w) (at (l .a) p) (at (l .b) q)
-    where
-      at : (p : Spot) → reachesSpot p w k c ≡ false → madeAt p k (deedOf k c w) ≡ []
-      at p h =
-          each (λ (cs : List chip.Call). cs ≡ []) (same k (p .which))
-          (λ t. unreached-none (cabinet k w .board) (cabinet k w .room) (p .channel) c (rw t at h)) (λ t. refl)
+  -- a call that makes none of the chip's at either of the two: one to a board that has neither of them, a reset too, is such a call ..
+  pub unreached-no-step : (k : Which) (c : Call) → reachesSpot (l .a) k (deedOf k c w) ≡ false → reachesSpot (l .b) k (deedOf k c w) ≡ false → stepsOf l w (On k c) ≡ []
+  unreached-no-step k c p q = none-made l k (deedOf k c w) (none-at (l .a) k (deedOf k c w) p) (none-at (l .b) k (deedOf k c w) q)
 
-  nowhere : (k : Which) (c : Call) → ((n : ℕ) → reaches (cabinet k w .board) c n ≡ false) → stepsOf l w (On k c) ≡ []
+  -- .. and so is one about another channel, refused or not
+  pub others-no-step : (k : Which) (c : Call) (n : ℕ) → about (cabinet k w .board) c n ≡ true → isAt k n (l .a) ≡ false → isAt k n (l .b) ≡ false → stepsOf l w (On k c) ≡ []
+  others-no-step k c n h p q = unreached-no-step k c (at (l .a) p) (at (l .b) q)
+    where
+      at : (p : Spot) → isAt k n p ≡ false → reachesSpot p k (deedOf k c w) ≡ false
+      at p = go (same k (p .which))
+        where
+          go : (t : Bool) → (t && eqb n (p .channel)) ≡ false → (t && reaches (p .channel) (deedOf k c w)) ≡ false
+          go true d = about-one (cabinet k w .board) (cabinet k w .room) c n (p .channel) h (eqb-false n (p .channel) d)
+          go false d = refl
+
+  nowhere : (k : Which) (c : Call) → ((n : ℕ) → reaches n (deedOf k c w) ≡ false) → stepsOf l w (On k c) ≡ []
   nowhere k c h = unreached-no-step k c (at (l .a)) (at (l .b))
     where
-      at : (p : Spot) → reachesSpot p w k c ≡ false
-      at p = rw (h (p .channel)) (no-more (same k (p .which)))
+      at : (p : Spot) → reachesSpot p k (deedOf k c w) ≡ false
+      at p = rw (h (p .channel)) (and-false (same k (p .which)))
+
+  -- what is of the board alone is about every channel
+  of-the-board : (k : Which) (c : Call) → ((n : ℕ) → about (cabinet k w .board) c n ≡ true) → stepsOf l w (On k c) ≡ []
+  of-the-board k c h = nowhere k c (λ n. about-one (cabinet k w .board) (cabinet k w .room) c (suc n) n (h (suc n)) (λ e. omega arith))
 
   pub select-no-step : (k : Which) (v : ℕ) → stepsOf l w (On k (Out 7 v)) ≡ []
-  select-no-step k v = nowhere k (Out 7 v) (λ n. refl)
+  select-no-step k v = of-the-board k (Out 7 v) (λ n. refl)
 
   pub masks-no-step : (k : Which) (v : ℕ) → (stepsOf l w (On k (Out 4 v)) ≡ []) × (stepsOf l w (On k (Out 5 v)) ≡ [])
-  masks-no-step k v = (nowhere k (Out 4 v) (λ n. refl), nowhere k (Out 5 v) (λ n. refl))
+  masks-no-step k v = (of-the-board k (Out 4 v) (λ n. refl), of-the-board k (Out 5 v) (λ n. refl))
 
   pub interrupts-no-step : (k : Which) → (stepsOf l w (On k (In 4)) ≡ []) × (stepsOf l w (On k (In 5)) ≡ []) × (stepsOf l w (On k Interrupts) ≡ [])
-  interrupts-no-step k = (nowhere k (In 4) (λ n. refl), nowhere k (In 5) (λ n. refl), nowhere k Interrupts (λ n. refl))
+  interrupts-no-step k =
+      let b : Board = cabinet k w .board in
+      let n : ℕ = length (cabinet k w .room) in (
+        nowhere k (In 4) (λ i. either (λ (e : Deed). reaches i e ≡ false) (eqb (inRefusal b n 4) 0) refl refl),
+        nowhere k (In 5) (λ i. either (λ (e : Deed). reaches i e ≡ false) (eqb (inRefusal b n 5) 0) refl refl),
+        nowhere k Interrupts (λ i. either (λ (e : Deed). reaches i e ≡ false) (eqb (roomRefusal n) 0) refl refl),
+      )
 
   -- a call refused with 8, 9 or 10, wherever it was for
   pub refused-no-step : (k : Which) (c : Call) → 5 < said (cabinet k w .board) (cabinet k w .room) c .refusal → stepsOf l w (On k c) ≡ []
   unfolding said
-  refused-no-step k c h =
-      none-made l k (deedOf k c w) (none-at (l .a) k (deedOf k c w) (refused-none (cabinet k w .room) (deedOf k c w) (l .a .channel) h))
-      (none-at (l .b) k (deedOf k c w) (refused-none (cabinet k w .room) (deedOf k c w) (l .b .channel) h))
+  refused-no-step k c h = nowhere k c (λ n. refused-none (cabinet k w .room) (deedOf k c w) n h)
 
   -- so it is allowed wherever it comes, both ways and one way, and the two stay as they were
   module _ (x : Step) (xs : List Step) (none : stepsOf l w x ≡ []) where
@@ -495,21 +398,16 @@ one-heads false false rest h = absurd (true≢false (sym h))
 
 of-one : (l : Spots) (s : Side) → (same (spotAt s l .which) (l .a .which) || same (spotAt s l .which) (l .b .which)) ≡ true
 of-one l A = rw (same-itself (l .a .which))
-of-one l B = rw (same-itself (l .b .which)) (last (same (l .b .which) (l .a .which)))
-  where
-    last : (t : Bool) → (t || true) ≡ true
-    last true = refl
-    last false = refl
+of-one l B = rw (same-itself (l .b .which)) (or-true (same (l .b .which) (l .a .which)))
 
 -- where the last steps are not allowed, wherever they begin, no steps with these at their end are
 stops : (a b : Settings) (e : Bench) (ss ts : List bench.Step) → ((e : Bench) → allAllowed a b e ts ≡ false) → allAllowed a b e (ss ++ ts) ≡ false
 stops a b e [] ts h = h e
-stops a b e (x ∷ ss) ts h = rw (stops a b (bench.step e x) ss ts h) (no-more (demand.allowed a b e x))
+stops a b e (x ∷ ss) ts h = rw (stops a b (bench.step e x) ss ts h) (and-false (demand.allowed a b e x))
 
 stops-one-way : (s : Side) (L : ℕ) (e : Logged Pair) (ss ts : List bench.Step) → ((e : Logged Pair) → one-way.allAllowed (wayFrom s) L e ts ≡ false)
     → one-way.allAllowed (wayFrom s) L e (ss ++ ts) ≡ false
-stops-one-way s L e [] ts h = h e
-stops-one-way s L e (x ∷ ss) ts h = rw (stops-one-way s L (one-way.step (wayFrom s) e x) ss ts h) (no-more (one-way.allowed (wayFrom s) L e x))
+stops-one-way s L e ss ts h = allowed-append (wayFrom s) L e ss ts ∙ rw (h (one-way.runs (wayFrom s) e ss)) (and-false (one-way.allAllowed (wayFrom s) L e ss))
 
 pub boards-append : (l : Spots) (w : Boards) (xs ys : List Step) → allMoved l w (xs ++ ys) ≡ allMoved l (allMoved l w xs) ys
 boards-append l w [] ys = refl

@@ -14,7 +14,7 @@ use Rattle.ins2651_rules.specs.declared.Device.{Device}
 use Rattle.ins2651_rules.specs.Shape.{resetDevice}
 use Rattle.ins2651_rules.specs.Runs as chip
 use Rattle.board_rules.specs.declared.Board.{Board}
-use Rattle.board_rules.specs.Interrupts.{transmitStatus, receiveStatus, transmitLines, receiveLines, bothBytes}
+use Rattle.board_rules.specs.Interrupts.{transmitLines, receiveLines, bothBytes}
 use Rattle.board_rules.specs.Ports.{Call, In, Out, Reset, Pins, Transmit, Receive, Outputs, Interrupts, Deed, Shows, Sets, At, ResetsAll, channelOf, selected, withSelect, withTransmitMask, withReceiveMask, resetBoard, refusal, roomRefusal, inRefusal, outRefusal, namedRefusal, unless, reading, writing, deed}
 use Rattle.board_rules.specs.Runs.{boardBy, roomBy, saidBy, Said, boardAfter, roomAfter, said}
 use Rattle.board_rules.specs.About.{sets, looks}
@@ -88,7 +88,7 @@ module _ (b : Board) (room : List Device) where
   status n v w false false e h = absurd (true≢false (sym h))
 
   looks-same : (c : Call) → looks c ≡ true → Same (deed b room c)
-  looks-same (In port) h = status (inRefusal b (length room) port) (transmitStatus room) (receiveStatus room) (eqb port 4) (eqb port 5) (At (channelOf b) (chip.Read port)) h
+  looks-same (In port) h = status (inRefusal b (length room) port) _ _ (eqb port 4) (eqb port 5) (At (channelOf b) (chip.Read port)) h
   looks-same (Out port v) h = absurd (true≢false (sym h))
   looks-same Reset h = absurd (true≢false (sym h))
   looks-same (Pins channel dsr dcd cts) h = absurd (true≢false (sym h))

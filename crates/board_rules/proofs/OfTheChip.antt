@@ -1,7 +1,7 @@
 -- Two of the chip's promises over runs, as promises of each channel of a board.
 -- Assumes nothing.
 use Prim.Native.Nat.{ℕ}
-use native.Mathlib.Nat.{add-zero}
+use native.Mathlib.Omega.{arith}
 use mathlib.Core.Path.{_≡_, sym, ap, subst, _∙_}
 use mathlib.Core.Bool.{true, false}
 use mathlib.Core.List.{List, [], _∷_}
@@ -13,10 +13,10 @@ use Rattle.ins2651_rules.specs.Runs as chip
 use Rattle.ins2651_rules.specs.History.{clearsErrors, history, statusBy}
 use Rattle.ins2651_rules.proofs.FlagsStay.{Stay, flags-stay}
 use Rattle.ins2651_rules.proofs.ByHistory.{status-by-history}
-use Rattle.board_rules.specs.Ports.{Call, In, Reset, Deed, At, ResetsAll, unless, refusal, channelOf, selected, deed}
+use Rattle.board_rules.specs.Ports.{Call, In, Reset, Deed, ResetsAll, unless, refusal, channelOf, selected, deed}
 use Rattle.board_rules.specs.Runs.{deviceAt, saidBy, said, Cabinet, next, after}
 use Rattle.board_rules.specs.Channels.{callsBy, shown, callsAt}
-use Rattle.board_rules.proofs.Channels.{channel-is-a-chip, channel-after, room-stays-through}
+use Rattle.board_rules.proofs.Channels.{channel-is-a-chip, channel-after, room-stays-through, one-shown, read-reaches}
 
 -- framing, overrun and parity of a channel, once set, are set after every run of board calls that makes none there that clears them
 pub channel-flags-stay : (w : Cabinet) (cs : List Call) (k : ℕ) → inRange (deviceAt (w .room) k) ≡ true → chip.nowhere clearsErrors (callsAt k w cs) ≡ true → Stay (deviceAt (w .room) k .flags) (deviceAt (after w cs .room) k .flags)
@@ -45,15 +45,10 @@ module _ (w : Cabinet) (eight : length (w .room) ≡ 8) (cs : List Call) where
   pub channel-status-by-history : (k : ℕ) → chip.said (deviceAt (now .room) k) (chip.Read 1) ≡ record { refusal = 0; values = statusBy (history resetDevice (since k) []) ∷ [] }
   channel-status-by-history k = ap (λ (d : Device). chip.said d (chip.Read 1)) (from-reset k) ∙ status-by-history (since k)
 
-  -- the read of port 1, where the board is selected, is that of the selected channel
-  port-1-reads : selected (now .board) ≡ true → deed (now .board) (now .room) (In 1) ≡ At (channelOf (now .board)) (chip.Read 1)
-  port-1-reads s = rw (room-stays-through w (Reset ∷ cs), eight, s)
-
-  -- a byte alone is shown as itself
-  shown-byte : (v : ℕ) → shown (record { refusal = 0; values = v ∷ [] }) ≡ record { refusal = 0; value = v }
-  shown-byte v = ap (λ (x : ℕ). record { refusal = 0; value = x }) (add-zero v)
-
   -- .. so that port 1 of a selected board answers it
   pub port-1-by-history : selected (now .board) ≡ true → said (now .board) (now .room) (In 1) ≡ record { refusal = 0; value = statusBy (history resetDevice (since (channelOf (now .board))) []) }
   unfolding said
-  port-1-by-history s = ap (saidBy (now .room)) (port-1-reads s) ∙ ap shown (channel-status-by-history (channelOf (now .board))) ∙ shown-byte (statusBy (history resetDevice (since (channelOf (now .board))) []))
+  port-1-by-history s =
+      ap (saidBy (now .room)) (read-reaches (now .board) (now .room) (room-stays-through w (Reset ∷ cs) ∙ eight) s 1 (omega arith))
+      ∙ ap shown (channel-status-by-history (channelOf (now .board)))
+      ∙ ap (λ (v : ℕ). record { refusal = 0; value = v }) (one-shown (statusBy (history resetDevice (since (channelOf (now .board))) [])))

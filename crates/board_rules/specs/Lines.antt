@@ -4,7 +4,7 @@ use Prim.Native.Nat.{ℕ, _<_}
 use mathlib.Core.Path.{_≡_}
 use mathlib.Core.Bool.{Bool, true, false, cond, _&&_}
 use mathlib.Core.List.{List, [], _∷_, _++_, map}
-use lib.Dec.{eqb, ltb}
+use lib.Dec.{eqb}
 use lib.ListN.{length}
 use Rattle.ins2651_rules.specs.declared.Device.{Device}
 use Rattle.ins2651_rules.specs.Runs as chip
@@ -12,9 +12,9 @@ use Rattle.delivery.specs.Log.{nothingYet}
 use Rattle.delivery.specs.Joined.{Side, A, B}
 use Rattle.joined_rules.specs.declared.Pair.{Pair}
 use Rattle.joined_rules.specs.Bench as bench
-use Rattle.board_rules.specs.declared.Board.{Board}
-use Rattle.board_rules.specs.Ports.{Call, In, Out, Reset, Pins, Transmit, Receive, Outputs, Interrupts, channelOf, Deed, Refused, Shows, Sets, At, ResetsAll, deed}
+use Rattle.board_rules.specs.Ports.{Call, Transmit, Receive, Deed, deed}
 use Rattle.board_rules.specs.Runs.{deviceAt, said, Cabinet, next}
+use Rattle.board_rules.specs.Channels.{reaches, callsBy}
 
 -- == the boards ==
 
@@ -138,17 +138,13 @@ module _ (l : Spots) where
 
 -- == what they are to the two chips ==
 
--- the chip calls that a board call makes at a channel of its board ..
-abbrev pub made : ℕ → Deed → List chip.Call
-made n (Refused r) = []
-made n (Shows v) = []
-made n (Sets b) = []
-made n (At m c) = cond (eqb m n) (c ∷ []) []
-made n ResetsAll = chip.Reset ∷ []
+-- a board call makes one of the chip at a spot ..
+abbrev pub reachesSpot : Spot → Which → Deed → Bool
+reachesSpot p k e = same k (p .which) && reaches (p .channel) e
 
--- .. and at a spot
+-- .. and these are the calls
 abbrev pub madeAt : Spot → Which → Deed → List chip.Call
-madeAt p k e = cond (same k (p .which)) (made (p .channel) e) []
+madeAt p k e = cond (same k (p .which)) (callsBy (p .channel) e) []
 
 abbrev pub callSteps : Spots → Which → Deed → List bench.Step
 callSteps l k e = map (bench.At A) (madeAt (l .a) k e) ++ map (bench.At B) (madeAt (l .b) k e)
@@ -183,20 +179,6 @@ stepsOf l w (On k c) = callSteps l k (deedOf k c w)
 abbrev pub stepsAt : Spots → Boards → List Step → List bench.Step
 stepsAt l w [] = []
 stepsAt l w (x ∷ xs) = stepsOf l w x ++ stepsAt l (moved l w x) xs
-
--- a call can reach a channel: by a register's port where it is the selected one, or by its name; a reset reaches all
-abbrev pub reaches : Board → Call → ℕ → Bool
-reaches b (In port) n = ltb port 4 && eqb (channelOf b) n
-reaches b (Out port v) n = ltb port 4 && eqb (channelOf b) n
-reaches b Reset n = true
-reaches b (Pins channel dsr dcd cts) n = eqb channel n
-reaches b (Transmit channel) n = eqb channel n
-reaches b (Receive channel x) n = eqb channel n
-reaches b (Outputs channel) n = eqb channel n
-reaches b Interrupts n = false
-
-abbrev pub reachesSpot : Spot → Boards → Which → Call → Bool
-reachesSpot p w k c = same k (p .which) && reaches (cabinet k w .board) c (p .channel)
 
 -- == demand 3 ==
 
