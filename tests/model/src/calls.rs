@@ -140,6 +140,7 @@ pub fn without_padding(mut bytes: [u8; DEVICE_BYTES]) -> [u8; DEVICE_BYTES] {
 }
 
 /// The device that a host lends, as the model has it.
+#[derive(Clone, Debug, PartialEq, Eq)]
 pub enum Lent {
     InRange(Chip),
     /// It is taken as one just reset ("Refusal numbers").
@@ -147,19 +148,30 @@ pub enum Lent {
 }
 
 impl Lent {
-    /// What a line answers; none where the model cannot say it, which are the
-    /// bytes of a device in range.
-    pub fn answer(&mut self, line: &Line) -> Option<String> {
+    pub fn of_bytes(bytes: [u8; DEVICE_BYTES]) -> Lent {
+        match Chip::of_bytes(&bytes) {
+            Some(chip) => Lent::InRange(chip),
+            None => Lent::OutOfRange(bytes),
+        }
+    }
+
+    /// The bytes, without padding.
+    pub fn bytes(&self) -> [u8; DEVICE_BYTES] {
+        match self {
+            Lent::InRange(chip) => chip.bytes(),
+            Lent::OutOfRange(bytes) => without_padding(*bytes),
+        }
+    }
+
+    /// What a line answers.
+    pub fn answer(&mut self, line: &Line) -> String {
         match line {
-            Line::Call(call) => Some(numbers(&self.call(call).1)),
+            Line::Call(call) => numbers(&self.call(call).1),
             Line::Device(_, bytes) => {
-                *self = Lent::OutOfRange(*bytes);
-                Some("0".to_string())
+                *self = Lent::of_bytes(*bytes);
+                "0".to_string()
             }
-            Line::Bytes => match self {
-                Lent::InRange(_) => None,
-                Lent::OutOfRange(bytes) => Some(hexadecimal(&without_padding(*bytes))),
-            },
+            Line::Bytes => hexadecimal(&self.bytes()),
         }
     }
 
@@ -218,14 +230,10 @@ pub fn difference(lines: &[Line], output: &str) -> Option<Difference> {
     for (line, call) in lines.iter().enumerate() {
         let model = lent.answer(call);
         let driver = answers.next().unwrap_or(NOTHING);
-        let same = match &model {
-            Some(model) => model == driver,
-            None => shows_bytes(driver),
-        };
-        if !same {
+        if model != driver {
             return Some(Difference {
                 line,
-                model: model.unwrap_or("some bytes".to_string()),
+                model,
                 driver: driver.to_string(),
             });
         }
@@ -235,12 +243,6 @@ pub fn difference(lines: &[Line], output: &str) -> Option<Difference> {
         model: NOTHING.to_string(),
         driver: further.to_string(),
     })
-}
-
-/// Whether a text can be the bytes of a device.
-fn shows_bytes(text: &str) -> bool {
-    let digit = |byte: u8| matches!(byte, b'0'..=b'9' | b'a'..=b'f');
-    text.len() == 2 * DEVICE_BYTES && text.bytes().all(digit)
 }
 
 /// The shortest run found that still differs.

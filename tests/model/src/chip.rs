@@ -4,7 +4,10 @@
 //! The sender holds the levels that are left of the frame under way, and the
 //! receiver the samples of the character under way, so both lean on the frame
 //! and the reading of the crate's root. The sections named are those of
-//! document 01; P1 is that request of document 02, the change requests.
+//! document 01; P1 is that request of document 02, the change requests. `bytes`
+//! has the chip as the bytes that a host lends.
+
+mod bytes;
 
 use crate::{character_at, frame, Character, Format};
 use std::collections::VecDeque;
@@ -60,6 +63,8 @@ pub struct Chip {
     waiting: Option<u8>,
     /// What is left of the frame under way; nothing between frames.
     sending: VecDeque<bool>,
+    /// The format and the character of that frame, which are among its bytes.
+    begun: Option<(Format, u8)>,
     guard: u32,
 
     receiver: Receiver,
@@ -132,6 +137,7 @@ impl Chip {
             command: 0,
             waiting: None,
             sending: VecDeque::new(),
+            begun: None,
             guard: 0,
             receiver: Receiver::Waiting,
             held: 0,
@@ -258,6 +264,7 @@ impl Chip {
                 if self.guard == 0 {
                     if let Some(character) = self.waiting.take() {
                         self.sending = frame(&format, character).into();
+                        self.begun = Some((format, character));
                     }
                 }
             }
@@ -265,6 +272,9 @@ impl Chip {
         match self.sending.pop_front() {
             Some(level) => {
                 let ended = self.sending.is_empty();
+                if ended {
+                    self.begun = None;
+                }
                 if ended && self.waiting.is_none() && self.commanded(TRANSMIT) {
                     self.empty_mark = true;
                 }

@@ -32,7 +32,7 @@ fn registers_in_range(bytes: &[u8]) -> bool {
 }
 
 /// The format of five bytes, if it is in range.
-fn format(bytes: &[u8]) -> Option<Format> {
+pub fn format(bytes: &[u8]) -> Option<Format> {
     let [factor, length, parity, even, stop] = [0, 1, 2, 3, 4].map(|i| u32::from(bytes[i]));
     let known = [1, 16, 64].contains(&factor) && (5..=8).contains(&length);
     let stops = [factor, factor + factor / 2, 2 * factor];

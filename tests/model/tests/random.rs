@@ -269,7 +269,7 @@ impl WrongDriver {
         let mut output = String::new();
         for line in lines {
             (self.before)(&mut lent, line);
-            let mut answer = lent.answer(line).unwrap_or("00".repeat(44));
+            let mut answer = lent.answer(line);
             (self.after)(&mut lent, line, &mut answer);
             output += &(answer + "\n");
         }

@@ -1,6 +1,8 @@
-//! The ranges of a lent device's bytes (docs/RANGES.md), at some of their edges.
+//! The ranges of a lent device's bytes (docs/RANGES.md), at some of their edges, and
+//! the chip that they are.
 
-use model::calls::DEVICE_BYTES;
+use model::calls::{without_padding, Call, DEVICE_BYTES};
+use model::chip::Chip;
 use model::generate::ranges::{device, draws};
 use model::ranges::in_range;
 
@@ -88,4 +90,38 @@ fn a_character_under_way() {
 fn drawn_devices_are_in_range() {
     let draws = &mut draws(0);
     assert!((0..20000).all(|_| in_range(&device(draws))));
+}
+
+#[test]
+fn a_chip_has_the_bytes_that_it_is_made_of() {
+    let draws = &mut draws(0);
+    for _ in 0..20000 {
+        let bytes = device(draws);
+        let chip = Chip::of_bytes(&bytes).expect("it is in range");
+        assert_eq!(chip.bytes(), without_padding(bytes));
+    }
+    assert_eq!(Chip::of_bytes(&[255; DEVICE_BYTES]), None);
+}
+
+#[test]
+fn a_chip_by_its_bytes_goes_on_as_it_is() {
+    let draws = &mut draws(1);
+    for _ in 0..300 {
+        let mut kept = Chip::of_bytes(&device(draws)).expect("it is in range");
+        for _ in 0..200 {
+            let mut again = Chip::of_bytes(&kept.bytes()).expect("it is in range");
+            let level = draws.below(2) as u8;
+            let value = draws.byte();
+            let call = match draws.below(24) {
+                0 => Call::Write(0, value),
+                1 => Call::Write(2, value | 65),
+                2 => Call::Write(3, value & 63),
+                3 => Call::Read(value % 4),
+                4 => Call::Pins([level, 0, 0]),
+                _ => Call::Tick(level),
+            };
+            assert_eq!(call.make(&mut kept), call.make(&mut again));
+            assert_eq!(kept.bytes(), again.bytes());
+        }
+    }
 }
