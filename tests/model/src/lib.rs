@@ -5,11 +5,13 @@
 //! receive ticks" of document 01, for a receiver that is on throughout
 //! and keeps one mode. The module `chip` has the whole chip, `session` the
 //! session program, `calls` the text of the C driver and `ranges` the ranges of
-//! the device that it lends. The other modules are the random tests from outside:
+//! the device that it lends. The module `board` has eight chips on one board and the
+//! text of its driver. The other modules are the random tests from outside:
 //! `generate` draws sessions, runs of calls and devices, `program` runs the
 //! proved program, `delivery` holds an answer to demand 3 without the chip,
 //! `reach` counts what was reached and `shorten` cuts a difference down.
 
+pub mod board;
 pub mod calls;
 pub mod chip;
 pub mod delivery;
