@@ -2,9 +2,10 @@
 //! host lends (P2 of the change requests, and the interrupt pages of document 000,
 //! which is the board's manual).
 //!
-//! `lines` is the text of the board's C driver.
+//! `lines` is the text of the board's C driver, `reach` what random runs reached.
 
 pub mod lines;
+pub mod reach;
 
 use crate::calls::{Call as ChipCall, Lent};
 

@@ -1,7 +1,8 @@
 //! The random sessions, each with a fixed seed: its kind and its index. The runs
-//! of calls are in `calls`, the devices in `ranges`.
+//! of calls are in `calls`, the devices in `ranges`, the boards in `boards`.
 
 mod alike;
+pub mod boards;
 pub mod calls;
 mod hostile;
 mod malformed;
