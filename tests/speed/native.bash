@@ -1,6 +1,6 @@
-# Sourced by tests/speed/run and tests/speed/lent/run: the proved code of a crate as native code. On x86-64 that is what was built. On another
-# processor, or with SPEED_FROM_IR=1, its LLVM module is compiled for the machine's own: `from_ir` is 1 then.
-# Both have `room`, a folder below target/ for what is made, and `fail`, which ends them.
+# Sourced by tests/speed/run, tests/speed/lent/run and tests/speed/board/run: the proved code of a crate as native code. On x86-64 that is what
+# was built. On another processor, or with SPEED_FROM_IR=1, its LLVM module is compiled for the machine's own: `from_ir` is 1 then.
+# They have `room`, a folder below target/ for what is made, and `fail`, which ends them.
 
 from_ir=${SPEED_FROM_IR:-0}
 [ "$(uname -m)" = x86_64 ] || from_ir=1
