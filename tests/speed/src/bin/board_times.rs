@@ -131,7 +131,7 @@ struct Rig {
 }
 
 impl Rig {
-    /// A call with a room of `channels`, at most eight, which it is a number of with its bytes.
+    /// Makes the call of a number, with its bytes and with `channels` of the room.
     fn call(&mut self, by: &Calls, channels: usize, which: u32, [x, y, z, w]: [u8; 4]) -> u32 {
         let (b, r, n) = (
             &mut self.board as *mut Board,
@@ -203,7 +203,7 @@ impl Draws {
         }
     }
 
-    /// Any call with any numbers, most of which are done; a register and a tick more often than others.
+    /// Any call with any numbers, most of them small; ports and ticks more often than others.
     fn call(&mut self) -> (u32, [u8; 4]) {
         let which = [
             IN,
@@ -228,7 +228,7 @@ impl Draws {
     }
 }
 
-/// A device of any bytes, or the board's fields, are set on both sides.
+/// A channel of any bytes, and another number and select.
 fn spoil(draws: &mut Draws, rig: &mut Rig) {
     let channel = draws.below(CHANNELS as u32) as usize;
     rig.room[channel] = Device::of_bytes([(); DEVICE_BYTES].map(|()| draws.byte()));
