@@ -81,11 +81,11 @@ admitted channels absent elsewhere h = go (eqb channels 8) absent elsewhere refl
 
 -- == the calls that name a channel ==
 
-module _ (k : ℕ) (c : Bytes (suc k) → Call) (a : Bytes k → chip.Call) (is : (b : Board) (ys : List Device) (xs : Bytes (suc k)) → deed b ys (c xs) ≡ named ys (xs .0) (a (xs .1))) (weighs : (xs : Bytes (suc k)) → weight (c xs) ≡ 256) where
-  abbrev pub named-plan : Plans (suc k)
-  named-plan b channels xs = planNamed b channels (xs .0)
+abbrev pub named-plan : (k : ℕ) → Plans (suc k)
+named-plan k b channels xs = planNamed b channels (xs .0)
 
-  pub named-stops : Stops (suc k) named-plan (does (suc k) c)
+module _ (k : ℕ) (c : Bytes (suc k) → Call) (a : Bytes k → chip.Call) (is : (b : Board) (ys : List Device) (xs : Bytes (suc k)) → deed b ys (c xs) ≡ named ys (xs .0) (a (xs .1))) (weighs : (xs : Bytes (suc k)) → weight (c xs) ≡ 256) where
+  pub named-stops : Stops (suc k) (named-plan k) (does (suc k) c)
   named-stops b ys xs ends =
       let r : ℕ = namedRefusal (length ys) (xs .0) in
       let said = by-refusal (suc k) c b ys xs r (At (xs .0) (a (xs .1))) (is b ys xs) (not-true (eqb r 0) ends) in
@@ -96,7 +96,7 @@ module _ (k : ℕ) (c : Bytes (suc k) → Call) (a : Bytes k → chip.Call) (is 
     pub tells : (d : Device) (xs : Bytes k) → P .answers d xs * u ≡ word 256 (saidBy (d ∷ []) (At 0 (a xs)))
     pub leaves : (d : Device) (xs : Bytes k) → P .leaves d xs ≡ chip.next d (a xs)
 
-  pub named-single : (u : ℕ) (P : host.Promise k) → Chip u P → Single 1 k u named-plan P (does (suc k) c) always
+  pub named-single : (u : ℕ) (P : host.Promise k) → Chip u P → Single 1 k u (named-plan k) P (does (suc k) c) always
   named-single u P same = record {
     inside = λ b ys xs on one.
         let in-room = admitted (length ys) (ltb 7 (xs .0)) false (not-false _ on) in
@@ -132,31 +132,31 @@ level-told x = omega arith
 levels-told : (t r e d s : ℕ) → (t + r * 2 + e * 4 + d * 8 + s * 16) * 1 ≡ 0 * 256 + (t + 2 * (r + 2 * (e + 2 * (d + 2 * (s + 2 * 0)))))
 levels-told t r e d s = omega arith
 
-pub transmit-stops : Stops 1 (named-plan 0 transmit-call (λ xs. chip.Transmit) (λ b ys xs. refl) (λ xs. refl)) (does 1 transmit-call)
+pub transmit-stops : Stops 1 (named-plan 0) (does 1 transmit-call)
 transmit-stops = named-stops 0 transmit-call (λ xs. chip.Transmit) (λ b ys xs. refl) (λ xs. refl)
 
-pub transmit-single : Single 1 0 1 (λ b channels xs. planNamed b channels (xs .0)) transmits (does 1 transmit-call) always
+pub transmit-single : Single 1 0 1 (named-plan 0) transmits (does 1 transmit-call) always
 transmit-single = named-single 0 transmit-call (λ xs. chip.Transmit) (λ b ys xs. refl) (λ xs. refl) 1 transmits (record { tells = λ d xs. level-told (transmits .answers d xs); leaves = λ d xs. refl })
 
-pub outputs-stops : Stops 1 (λ b channels xs. planNamed b channels (xs .0)) (does 1 outputs-call)
+pub outputs-stops : Stops 1 (named-plan 0) (does 1 outputs-call)
 outputs-stops = named-stops 0 outputs-call (λ xs. chip.Outputs) (λ b ys xs. refl) (λ xs. refl)
 
-pub outputs-single : Single 1 0 1 (λ b channels xs. planNamed b channels (xs .0)) tells-outputs (does 1 outputs-call) always
+pub outputs-single : Single 1 0 1 (named-plan 0) tells-outputs (does 1 outputs-call) always
 outputs-single = named-single 0 outputs-call (λ xs. chip.Outputs) (λ b ys xs. refl) (λ xs. refl) 1 tells-outputs (record { tells = λ d xs. let o = outputs d in levels-told (o .txrdy) (o .rxrdy) (o .txemt) (o .dtr) (o .rts); leaves = λ d xs. refl })
 
-pub receive-stops : Stops 2 (λ b channels xs. planNamed b channels (xs .0)) (does 2 receive-call)
+pub receive-stops : Stops 2 (named-plan 1) (does 2 receive-call)
 receive-stops = named-stops 1 receive-call (λ xs. chip.Receive (xs .0)) (λ b ys xs. refl) (λ xs. refl)
 
-pub receive-single : Single 1 1 256 (λ b channels xs. planNamed b channels (xs .0)) receives (does 2 receive-call) always
+pub receive-single : Single 1 1 256 (named-plan 1) receives (does 2 receive-call) always
 receive-single = named-single 1 receive-call (λ xs. chip.Receive (xs .0)) (λ b ys xs. refl) (λ xs. refl) 256 receives (record { tells = λ d xs. alone (receives .answers d xs * 256); leaves = λ d xs. refl })
 
 pub receive-small : (d : Device) (xs : Bytes 1) → receives .answers d xs < 256
 receive-small d xs = small-refusal d (chip.Receive (xs .0))
 
-pub pins-stops : Stops 4 (λ b channels xs. planNamed b channels (xs .0)) (does 4 pins-call)
+pub pins-stops : Stops 4 (named-plan 3) (does 4 pins-call)
 pins-stops = named-stops 3 pins-call (λ xs. chip.SetPins (xs .0) (xs .1 .0) (xs .1 .1 .0)) (λ b ys xs. refl) (λ xs. refl)
 
-pub pins-single : Single 1 3 256 (λ b channels xs. planNamed b channels (xs .0)) sets-pins (does 4 pins-call) always
+pub pins-single : Single 1 3 256 (named-plan 3) sets-pins (does 4 pins-call) always
 pins-single =
     named-single 3 pins-call (λ xs. chip.SetPins (xs .0) (xs .1 .0) (xs .1 .1 .0)) (λ b ys xs. refl) (λ xs. refl) 256 sets-pins (record { tells = λ d xs. alone (sets-pins .answers d xs * 256); leaves = λ d xs. refl })
 

@@ -6,10 +6,9 @@ use denote.Triple.Spec.{tripleOf}
 use denote.Triple.Table.{entered, cited}
 use Rattle.host.proofs.Again.{Lending}
 use Rattle.host.proofs.Promises.{sets-pins}
-use Rattle.board.specs.Plans.{planNamed}
 use Rattle.board.proofs.Calls.{Planning}
 use Rattle.board.proofs.Shapes.{meets-raised}
-use Rattle.board.proofs.Promises.{pins-call, does, pins-stops, pins-single, pins-small}
+use Rattle.board.proofs.Promises.{named-plan, pins-call, does, pins-stops, pins-single, pins-small}
 use Rattle.board.proofs.plan_pins.Symbol as plan-pins-def
 use Rattle.board.proofs.plan_pins.Symbol.{name as #plan-pins}
 use Rattle.board.proofs.plan_pins.Met as plan-pins-thm
@@ -26,7 +25,7 @@ unfolding code.routine tablesOf
 interfacer3-pins-spec 𝓤 H 𝓜 𝓖 𝓡 =
     entered 𝓤 H (tripleOf 𝓤 H (𝓖 .A) f.signature (f.spec 𝓤 H (𝓖 .A) (𝓜 .mem) (𝓡 .run)))
     (tables 𝓤 H 𝓜 𝓡 code.env .C) (tables 𝓤 H 𝓜 𝓡 code.env .Λ) #interfacer3-pins code.function (code.unfolded 𝓤 H 𝓜 𝓡)
-    (meets-raised 𝓤 H (𝓖 .A) (givenOf 𝓤 H 𝓜 𝓖) 1 3 (λ b channels xs. planNamed b channels (xs .0)) sets-pins (does 4 pins-call) pins-stops (tablesOf 𝓤 H 𝓜 (tables 𝓤 H 𝓜 𝓡 code.env)) #plan-pins #ins2651-pins
-    (cited 𝓤 H (Planning 𝓤 H (𝓖 .A) 4 (λ b channels xs. planNamed b channels (xs .0))) 𝓜 𝓡 code.env #plan-pins plan-pins-def.routine code.calls-board·plan-pins (plan-pins-thm.met 𝓤 H 𝓜 𝓖 𝓡))
+    (meets-raised 𝓤 H (𝓖 .A) (givenOf 𝓤 H 𝓜 𝓖) 1 3 (named-plan 3) sets-pins (does 4 pins-call) pins-stops (tablesOf 𝓤 H 𝓜 (tables 𝓤 H 𝓜 𝓡 code.env)) #plan-pins #ins2651-pins
+    (cited 𝓤 H (Planning 𝓤 H (𝓖 .A) 4 (named-plan 3)) 𝓜 𝓡 code.env #plan-pins plan-pins-def.routine code.calls-board·plan-pins (plan-pins-thm.met 𝓤 H 𝓜 𝓖 𝓡))
     (cited 𝓤 H (Lending 𝓤 H (𝓖 .A) 3 sets-pins) 𝓜 𝓡 code.env #ins2651-pins ins2651-pins-def.routine code.calls-host·ins2651-pins (ins2651-pins-thm.met 𝓤 H 𝓜 𝓖 𝓡))
     pins-single pins-small)

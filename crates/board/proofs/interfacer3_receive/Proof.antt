@@ -6,10 +6,9 @@ use denote.Triple.Spec.{tripleOf}
 use denote.Triple.Table.{entered, cited}
 use Rattle.host.proofs.Again.{Lending}
 use Rattle.host.proofs.Promises.{receives}
-use Rattle.board.specs.Plans.{planNamed}
 use Rattle.board.proofs.Calls.{Planning}
 use Rattle.board.proofs.Shapes.{meets-raised}
-use Rattle.board.proofs.Promises.{receive-call, does, receive-stops, receive-single, receive-small}
+use Rattle.board.proofs.Promises.{named-plan, receive-call, does, receive-stops, receive-single, receive-small}
 use Rattle.board.proofs.plan_receive.Symbol as plan-receive-def
 use Rattle.board.proofs.plan_receive.Symbol.{name as #plan-receive}
 use Rattle.board.proofs.plan_receive.Met as plan-receive-thm
@@ -26,7 +25,7 @@ unfolding code.routine tablesOf
 interfacer3-receive-spec 𝓤 H 𝓜 𝓖 𝓡 =
     entered 𝓤 H (tripleOf 𝓤 H (𝓖 .A) f.signature (f.spec 𝓤 H (𝓖 .A) (𝓜 .mem) (𝓡 .run)))
     (tables 𝓤 H 𝓜 𝓡 code.env .C) (tables 𝓤 H 𝓜 𝓡 code.env .Λ) #interfacer3-receive code.function (code.unfolded 𝓤 H 𝓜 𝓡)
-    (meets-raised 𝓤 H (𝓖 .A) (givenOf 𝓤 H 𝓜 𝓖) 1 1 (λ b channels xs. planNamed b channels (xs .0)) receives (does 2 receive-call) receive-stops (tablesOf 𝓤 H 𝓜 (tables 𝓤 H 𝓜 𝓡 code.env)) #plan-receive #ins2651-receive
-    (cited 𝓤 H (Planning 𝓤 H (𝓖 .A) 2 (λ b channels xs. planNamed b channels (xs .0))) 𝓜 𝓡 code.env #plan-receive plan-receive-def.routine code.calls-board·plan-receive (plan-receive-thm.met 𝓤 H 𝓜 𝓖 𝓡))
+    (meets-raised 𝓤 H (𝓖 .A) (givenOf 𝓤 H 𝓜 𝓖) 1 1 (named-plan 1) receives (does 2 receive-call) receive-stops (tablesOf 𝓤 H 𝓜 (tables 𝓤 H 𝓜 𝓡 code.env)) #plan-receive #ins2651-receive
+    (cited 𝓤 H (Planning 𝓤 H (𝓖 .A) 2 (named-plan 1)) 𝓜 𝓡 code.env #plan-receive plan-receive-def.routine code.calls-board·plan-receive (plan-receive-thm.met 𝓤 H 𝓜 𝓖 𝓡))
     (cited 𝓤 H (Lending 𝓤 H (𝓖 .A) 1 receives) 𝓜 𝓡 code.env #ins2651-receive ins2651-receive-def.routine code.calls-host·ins2651-receive (ins2651-receive-thm.met 𝓤 H 𝓜 𝓖 𝓡))
     receive-single receive-small)

@@ -76,6 +76,11 @@ const PLAIN: Calls = Calls {
     interrupts: plain_interrupts,
 };
 
+/// The answer of a call without a value.
+fn refusal(number: u8) -> u16 {
+    256 * u16::from(number)
+}
+
 // The plain calls as C has them. SAFETY: the caller lends a board and a room of `n` devices.
 
 unsafe extern "C" fn plain_in(b: *mut Board, r: *mut Device, n: usize, port: u8) -> u16 {
@@ -88,10 +93,10 @@ unsafe extern "C" fn plain_out(
     port: u8,
     value: u8,
 ) -> u16 {
-    (*b).output(from_raw_parts_mut(r, n), port, value).into()
+    refusal((*b).output(from_raw_parts_mut(r, n), port, value))
 }
 unsafe extern "C" fn plain_reset(b: *mut Board, r: *mut Device, n: usize) -> u16 {
-    (*b).reset(from_raw_parts_mut(r, n)).into()
+    refusal((*b).reset(from_raw_parts_mut(r, n)))
 }
 unsafe extern "C" fn plain_pins(
     _: *mut Board,
@@ -102,7 +107,7 @@ unsafe extern "C" fn plain_pins(
     dcd: u8,
     cts: u8,
 ) -> u16 {
-    board::set_pins(from_raw_parts_mut(r, n), k, [dsr, dcd, cts]).into()
+    refusal(board::set_pins(from_raw_parts_mut(r, n), k, [dsr, dcd, cts]))
 }
 unsafe extern "C" fn plain_transmit(_: *mut Board, r: *mut Device, n: usize, k: u8) -> u16 {
     board::transmit(from_raw_parts_mut(r, n), k)
@@ -114,7 +119,7 @@ unsafe extern "C" fn plain_receive(
     k: u8,
     level: u8,
 ) -> u16 {
-    board::receive(from_raw_parts_mut(r, n), k, level).into()
+    refusal(board::receive(from_raw_parts_mut(r, n), k, level))
 }
 unsafe extern "C" fn plain_outputs(_: *mut Board, r: *mut Device, n: usize, k: u8) -> u16 {
     board::outputs(from_raw_parts_mut(r, n), k)
