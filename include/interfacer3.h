@@ -37,20 +37,21 @@ enum {
 #define INTERFACER3_SELECT(number, channel) ((uint8_t)(((number) & 3) << 3 | ((channel) & 7)))
 
 /* Refusals: 10, 8, 9 in this order, then the channel's own, which ins2651.h names. A refused call leaves the board and all channels as
- * they were. */
+ * they were. A reset and the interrupts are refused with 10 alone, outputs with 10 and 8, ticks and pins with 10, 8 and the channel's
+ * own: none of these asks what is selected. */
 enum {
     INTERFACER3_NO_SUCH_PORT = 8,  /* a port or a channel above 7, any access to port 6, a read of port 7 */
     INTERFACER3_NOT_SELECTED = 9,  /* an access to ports 0 to 5 while another board is selected */
     INTERFACER3_WRONG_ROOM = 10    /* a count of channels other than eight; no i3_ call is refused so */
 };
 
-/* An answer of 16 bits, taken apart: the refusal, and the value read, the level sent or the levels of the outputs, 0 where it is refused.
- * Calls that have no value answer so too: unlike ins2651_write's, their answer is 256 times the refusal. */
+/* An answer of 16 bits is 256 times the refusal, plus the value read, the level sent or the levels of the outputs, which is 0 where it is
+ * refused. Calls that have no value answer so too: unlike ins2651_write's, their answer is 256 times the refusal. */
 #define INTERFACER3_REFUSAL(answer) ((uint8_t)((answer) >> 8))
 #define INTERFACER3_VALUE(answer) ((uint8_t)((answer) & 255))
 
-/* The answer of the interrupts, of 32 bits, taken apart: the refusal, and for each channel, bit by bit, whether its receive and its
- * transmit interrupt line is asserted. A 1 is an asserted line, which is low on the bus. */
+/* The answer of the interrupts, of 32 bits, is 65536 times the refusal, plus 256 times the receive byte, plus the transmit byte: bit k of
+ * each is 1 where that line of channel k is asserted, which is low on the bus. Both bytes are 0 where it is refused. */
 #define INTERFACER3_LINES_REFUSAL(answer) ((uint8_t)((answer) >> 16))
 #define INTERFACER3_RECEIVE_LINES(answer) ((uint8_t)((answer) >> 8 & 255))
 #define INTERFACER3_TRANSMIT_LINES(answer) ((uint8_t)((answer) & 255))
@@ -93,7 +94,7 @@ INTERFACER3_AT(interfacer3, channel, sizeof(interfacer3_board), INTERFACER3_CHAN
 #undef INTERFACER3_AT
 #undef INTERFACER3_HOLDS
 
-/* The calls. `room` is that of the channels, as many as `channels` says, and the board is no part of it. Other than eight are refused, and
+/* The calls. `room` is that of the channels, as many as `channels` says; the board must not lie in it. Other than eight are refused, and
  * nothing is looked at. */
 
 /* Reads a port of the board; answers its value. Reading 4 and 5 changes nothing. */

@@ -1,5 +1,6 @@
-/* The board, to copy: a program that echoes what its users type, by polling the board as the manual's own test program does. Users 1 and 6
- * type at the same time; each sees his own text, and the other six see nothing. */
+/* The board, to copy: a program that echoes what its users type, by polling the board as the manual's own test program does: it selects
+ * one user after the other and looks at his status. Users 1 and 6 type at the same time; each sees his own text, and the other six see
+ * nothing. */
 #include <stdio.h>
 
 #include "interfacer3.h"
@@ -16,14 +17,18 @@ static void set_up(interfacer3 *board) {
         i3_out(board, INTERFACER3_MODE, MODE2);
         i3_out(board, INTERFACER3_COMMAND, COMMAND);
     }
+    i3_out(board, INTERFACER3_TRANSMIT_INTERRUPTS, 0xFF); /* every interrupt is enabled, though a program that polls asks for none */
+    i3_out(board, INTERFACER3_RECEIVE_INTERRUPTS, 0xFF);
 }
 
-/* Who has typed, and may be answered: each gets his character back. No interrupt is enabled, and the board shows them all the same. */
+/* Who has typed gets his character back. The manual's program waits until it may be sent; here the line ticks in the same loop, so that
+ * the character waits in its register. */
 static void echo(interfacer3 *board) {
-    int users = i3_in(board, INTERFACER3_RECEIVE_INTERRUPTS) & i3_in(board, INTERFACER3_TRANSMIT_INTERRUPTS);
+    const int typed_and_ready = INS2651_STATUS_RXRDY | INS2651_STATUS_TXRDY;
     for (uint8_t user = 0; user < INTERFACER3_CHANNELS; user++) {
-        if (!(users >> user & 1)) continue;
         i3_out(board, INTERFACER3_USER, INTERFACER3_SELECT(0, user));
+        int status = INTERFACER3_VALUE(i3_in(board, INTERFACER3_STATUS));
+        if ((status & typed_and_ready) != typed_and_ready) continue;
         i3_out(board, INTERFACER3_DATA, INTERFACER3_VALUE(i3_in(board, INTERFACER3_DATA)));
     }
 }
@@ -77,6 +82,7 @@ int main(void) {
         }
         echo(&board);
     }
-    for (int user = 0; user < INTERFACER3_CHANNELS; user++) printf("user %d sees '%s'\n", user, terminals[user].screen);
+    for (int user = 0; user < INTERFACER3_CHANNELS; user++)
+        printf("user %d sees %d characters: '%s'\n", user, terminals[user].column, terminals[user].screen);
     return 0;
 }

@@ -7,7 +7,7 @@ use mathlib.Core.List.{[], _∷_, List}
 use native.Mathlib.Omega.{arith}
 use lib.Dec.{eqb, ltb}
 use lib.ListN.{length, set, replicate}
-use borrow.Author.Tests.{eqb-true, eqb-false, ltb-true, ltb-false, eq-eqb, ne-eqb}
+use borrow.Author.Tests.{eqb-true, eqb-false, ltb-true, ltb-false, eq-eqb, ne-eqb, not-true, not-false}
 use Rattle.line_rules.proofs.Choice.{either, neither}
 use Rattle.line_rules.proofs.Table.{both}
 use Rattle.ins2651_rules.specs.declared.Device.{Device}
@@ -57,14 +57,6 @@ by-refusal n c b ys xs r e is z = by-deed n c b ys xs (Refused r) (is ∙ ap (λ
 -- one that is not
 taken : (r : ℕ) (e : Deed) {x : Deed} → x ≡ cond (eqb r 0) e (Refused r) → eqb r 0 ≡ true → x ≡ e
 taken r e is z = is ∙ ap (λ (t : Bool). cond t e (Refused r)) z
-
-not-true : (t : Bool) → not t ≡ true → t ≡ false
-not-true true h = absurd (true≢false (sym h))
-not-true false h = refl
-
-not-false : (t : Bool) → not t ≡ false → t ≡ true
-not-false true h = refl
-not-false false h = absurd (true≢false h)
 
 -- nothing is refused: the room has eight channels, and what is asked for is there
 record Admitted (channels : ℕ) (absent : Bool) : Type 0 where
@@ -297,22 +289,17 @@ peeked-stay = of-eight (λ ys. ys ≡ swept peeks 8 0 ys) (λ a b c d e f g h. r
 all-resets : (ys : List Device) → length ys ≡ 8 → swept resets 8 0 ys ≡ replicate 8 resetDevice
 all-resets = of-eight (λ ys. swept resets 8 0 ys ≡ replicate 8 resetDevice) (λ a b c d e f g h. refl)
 
--- the statuses' lowest bits are their bits 0, and their halves' are bits 1
-lowest : (v : ℕ) → v % 2 ≡ weigh (has 1 v) 1
-lowest v = go (v % 2) refl (omega arith)
+-- the bit of weight m of a status, as it is shown
+shown-bit : (m v : ℕ) → v / m % 2 ≡ weigh (has m v) 1
+shown-bit m v = go (v / m % 2) refl (below-two (v / m))
   where
-    go : (m : ℕ) → v % 2 ≡ m → m < 2 → m ≡ weigh (has 1 v) 1
-    go zero e l = let z : v / 1 % 2 ≡ 0 = omega (arith, e) in rw z refl
-    go (suc zero) e l = let z : v / 1 % 2 ≡ 1 = omega (arith, e) in rw z refl
-    go (suc (suc m)) e l = absurd (omega (arith, l))
+    below-two : (x : ℕ) → x % 2 < 2
+    below-two x = omega arith
 
-second : (v : ℕ) → v / 2 % 2 ≡ weigh (has 2 v) 1
-second v = go (v / 2 % 2) refl (omega arith)
-  where
-    go : (m : ℕ) → v / 2 % 2 ≡ m → m < 2 → m ≡ weigh (has 2 v) 1
+    go : (r : ℕ) → v / m % 2 ≡ r → r < 2 → r ≡ weigh (has m v) 1
     go zero e l = rw e refl
     go (suc zero) e l = rw e refl
-    go (suc (suc m)) e l = absurd (omega (arith, l))
+    go (suc (suc r)) e l = absurd (omega (arith, l))
 
 low-bits-so : (a b c d e f g h : ℕ) → lowBits a b c d e f g h ≡ a % 2 + 2 * (b % 2 + 2 * (c % 2 + 2 * (d % 2 + 2 * (e % 2 + 2 * (f % 2 + 2 * (g % 2 + 2 * (h % 2 + 2 * 0)))))))
 unfolding lowBits
@@ -342,11 +329,11 @@ status-of v port = interruptStatus (v .0) (v .1 .0) (v .1 .1 .0) (v .1 .1 .1 .0)
 
 status-4 : (ys : List Device) → length ys ≡ 8 → status-of (told peeks 8 0 ys) 4 ≡ transmitStatus ys
 unfolding interruptStatus
-status-4 ys n = by-status sendsNext (λ v. v) (λ d. lowest (peek d)) ys n
+status-4 ys n = by-status sendsNext (λ v. v) (λ d. (let e : peek d % 2 ≡ peek d / 1 % 2 = omega arith in e) ∙ shown-bit 1 (peek d)) ys n
 
 status-5 : (ys : List Device) → length ys ≡ 8 → status-of (told peeks 8 0 ys) 5 ≡ receiveStatus ys
 unfolding interruptStatus
-status-5 ys n = by-status holdsOne (λ v. v / 2) (λ d. second (peek d)) ys n
+status-5 ys n = by-status holdsOne (λ v. v / 2) (λ d. shown-bit 2 (peek d)) ys n
 
 -- == a port is read ==
 

@@ -13,11 +13,14 @@ use borrow.Author.Tests.{eq-eqb, ne-eqb}
 use Rattle.line_rules.proofs.Choice.{either}
 use Rattle.ins2651_rules.specs.declared.Device.{Device}
 use Rattle.ins2651_rules.specs.declared.Answer.{Answer}
+use Rattle.ins2651_rules.specs.Shape.{resetDevice}
 use Rattle.ins2651_rules.specs.Modes.{has}
-use Rattle.ins2651_rules.specs.Status.{weigh, peek}
+use Rattle.ins2651_rules.specs.Ranges.{inRange, settled}
+use Rattle.ins2651_rules.specs.Status.{weigh, statusByte, peek}
 use Rattle.ins2651_rules.specs.RegisterReads.{readRegister}
 use Rattle.ins2651_rules.specs.Runs as chip
 use Rattle.ins2651_rules.proofs.Done.{done-read}
+use Rattle.ins2651_rules.proofs.Settled.{settled-out}
 use Rattle.board_rules.specs.declared.Board.{Board}
 use Rattle.board_rules.specs.Interrupts.{byChannel, sendsNext, holdsOne, transmitStatus, receiveStatus, transmitLines, receiveLines, bothBytes}
 use Rattle.board_rules.specs.Ports.{In, Interrupts, selected, unless, roomRefusal, deed, Shows}
@@ -80,6 +83,11 @@ module _ (room : List Device) (k : ℕ) (h : k < length room) where
 
   pub receive-line : (b : Board) → has (2 ^ k) (receiveLines b room) ≡ (has 2 (peek (deviceAt room k)) && has (2 ^ k) (b .«receive_mask»))
   receive-line b = and-bit k (receiveStatus room) (b .«receive_mask») ∙ ap (λ (t : Bool). t && has (2 ^ k) (b .«receive_mask»)) receive-status-bit
+
+-- a channel out of range counts as one just reset, and has no interrupt
+pub outside-shows-none : (d : Device) → inRange d ≡ false → (sendsNext d ≡ false) × (holdsOne d ≡ false)
+unfolding peek statusByte
+outside-shows-none d h = let e : settled d ≡ resetDevice = settled-out d h in (rw e refl, rw e refl)
 
 -- what is looked at there is what a status read of the chip shows
 pub peek-is-read : (d : Device) → chip.said d (chip.Read 1) ≡ record { refusal = 0; values = peek d ∷ [] }

@@ -5,5 +5,6 @@ pub mod Alone
 pub mod Computed
 pub mod OfTheBoard
 pub mod ByChannel
+pub mod TakenApart
 pub mod Lines
 pub mod TwoUsers

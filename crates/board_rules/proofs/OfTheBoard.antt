@@ -2,10 +2,10 @@
 -- Assumes nothing.
 use Prim.Native.Nat.{ℕ, _/_, _%_, _<_}
 use native.Mathlib.Omega.{arith}
-use mathlib.Core.Path.{_≡_, refl, sym, ap, _∙_}
-use mathlib.Core.Bool.{Bool, true, false, cond, _||_, true≢false}
+use mathlib.Core.Path.{_≡_, refl, sym, ap, subst, _∙_}
+use mathlib.Core.Bool.{Bool, true, false, cond, not, _&&_, _||_, true≢false}
 use mathlib.Core.List.{List}
-use lib.Dec.{eqb}
+use lib.Dec.{eqb, ltb}
 use lib.ListN.{length, replicate}
 use lib.Seq.{set-getD}
 use borrow.Author.Tests.{ne-eqb}
@@ -14,8 +14,8 @@ use Rattle.ins2651_rules.specs.declared.Device.{Device}
 use Rattle.ins2651_rules.specs.Shape.{resetDevice}
 use Rattle.ins2651_rules.specs.Runs as chip
 use Rattle.board_rules.specs.declared.Board.{Board}
-use Rattle.board_rules.specs.Interrupts.{transmitLines, receiveLines, bothBytes}
-use Rattle.board_rules.specs.Ports.{Call, In, Out, Reset, Pins, Transmit, Receive, Outputs, Interrupts, Deed, Shows, Sets, At, ResetsAll, channelOf, selected, withSelect, withTransmitMask, withReceiveMask, resetBoard, refusal, roomRefusal, inRefusal, outRefusal, namedRefusal, unless, reading, writing, deed}
+use Rattle.board_rules.specs.Interrupts.{transmitStatus, receiveStatus, transmitLines, receiveLines, bothBytes}
+use Rattle.board_rules.specs.Ports.{Call, In, Out, Reset, Pins, Transmit, Receive, Outputs, Interrupts, Deed, Refused, Shows, Sets, At, ResetsAll, channelOf, selected, withSelect, withTransmitMask, withReceiveMask, resetBoard, refusal, roomRefusal, inRefusal, outRefusal, namedRefusal, unless, reading, writing, named, deed}
 use Rattle.board_rules.specs.Runs.{boardBy, roomBy, saidBy, Said, boardAfter, roomAfter, said}
 use Rattle.board_rules.specs.About.{sets, looks}
 
@@ -145,3 +145,84 @@ selects-channel b v = omega arith
 
 pub selects-board : (b : Board) (v : ℕ) → selected (withSelect b v) ≡ eqb (v / 8 % 4) (b .number)
 selects-board b v = ap (λ (n : ℕ). eqb n (b .number)) (let e : v % 32 / 8 % 4 ≡ v / 8 % 4 = omega arith in e)
+
+-- == a stored select ==
+
+-- the board with the low five bits of its select
+abbrev pub cut : Board → Board
+cut b = withSelect b (b .select)
+
+-- two deeds, of a board and of the same one cut, that answer alike and leave the same room and, cut, the same board
+pub record Alike (b : Board) (r : List Device) (e f : Deed) : Type 0 where
+  pub answer : saidBy r e ≡ saidBy r f
+  pub room : roomBy r e ≡ roomBy r f
+  pub board : cut (boardBy b e) ≡ cut (boardBy (cut b) f)
+
+module _ (b : Board) (room : List Device) where
+  -- what is cut twice is cut once, whatever its masks are
+  five-bits : (f : ℕ → Board) → f (b .select % 32) ≡ f (b .select % 32 % 32)
+  five-bits f = ap f (let e : b .select % 32 ≡ b .select % 32 % 32 = omega arith in e)
+
+  alike : (e : Deed) → boardBy b e ≡ b → boardBy (cut b) e ≡ cut b → Alike b room e e
+  alike e p q = record { answer = refl; room = refl; board = ap cut p ∙ five-bits (withSelect b) ∙ sym (ap cut q) }
+
+  same-channel : channelOf b ≡ channelOf (cut b)
+  same-channel = sym (selects-channel b (b .select))
+
+  same-board : selected b ≡ selected (cut b)
+  same-board = sym (selects-board b (b .select))
+
+  at-alike : (x : chip.Call) → Alike b room (At (channelOf b) x) (At (channelOf (cut b)) x)
+  at-alike x = subst (λ (k : ℕ). Alike b room (At (channelOf b) x) (At k x)) same-channel (alike (At (channelOf b) x) refl refl)
+
+  unless-alike : (n : ℕ) (e f : Deed) → Alike b room e f → Alike b room (unless n e) (unless n f)
+  unless-alike n e f h = go (eqb n 0)
+    where
+      go : (t : Bool) → Alike b room (cond t e (Refused n)) (cond t f (Refused n))
+      go true = h
+      go false = alike (Refused n) refl refl
+
+  reading-alike : (port : ℕ) → Alike b room (reading b room port) (reading (cut b) room port)
+  reading-alike port = go (eqb port 4) (eqb port 5)
+    where
+      go : (x y : Bool) → Alike b room (cond x (Shows (transmitStatus room)) (cond y (Shows (receiveStatus room)) (At (channelOf b) (chip.Read port))))
+          (cond x (Shows (transmitStatus room)) (cond y (Shows (receiveStatus room)) (At (channelOf (cut b)) (chip.Read port))))
+      go true y = alike (Shows (transmitStatus room)) refl refl
+      go false true = alike (Shows (receiveStatus room)) refl refl
+      go false false = at-alike (chip.Read port)
+
+  writing-alike : (port v : ℕ) → Alike b room (writing b port v) (writing (cut b) port v)
+  writing-alike port v = go (eqb port 4) (eqb port 5) (eqb port 7)
+    where
+      go : (x y z : Bool) → Alike b room (cond x (Sets (withTransmitMask b v)) (cond y (Sets (withReceiveMask b v)) (cond z (Sets (withSelect b v)) (At (channelOf b) (chip.Write port v)))))
+          (cond x (Sets (withTransmitMask (cut b) v)) (cond y (Sets (withReceiveMask (cut b) v)) (cond z (Sets (withSelect (cut b) v)) (At (channelOf (cut b)) (chip.Write port v)))))
+      go true y z = record { answer = refl; room = refl; board = five-bits (withSelect (withTransmitMask b v)) }
+      go false true z = record { answer = refl; room = refl; board = five-bits (withSelect (withReceiveMask b v)) }
+      go false false true = record { answer = refl; room = refl; board = refl }
+      go false false false = at-alike (chip.Write port v)
+
+  named-alike : (channel : ℕ) (x : chip.Call) → Alike b room (named room channel x) (named room channel x)
+  named-alike channel x = unless-alike (namedRefusal (length room) channel) (At channel x) (At channel x) (alike (At channel x) refl refl)
+
+  abbrev lines : Deed
+  lines = Shows (bothBytes (transmitLines b room) (receiveLines b room))
+
+  deeds-alike : (c : Call) → Alike b room (deed b room c) (deed (cut b) room c)
+  deeds-alike (In port) =
+      subst (λ (t : Bool). Alike b room (deed b room (In port)) (unless (refusal (length room) (ltb 5 port) (not t)) (reading (cut b) room port))) same-board
+      (unless-alike (inRefusal b (length room) port) (reading b room port) (reading (cut b) room port) (reading-alike port))
+  deeds-alike (Out port v) =
+      subst (λ (t : Bool). Alike b room (deed b room (Out port v)) (unless (refusal (length room) (eqb port 6 || ltb 7 port) (ltb port 6 && not t)) (writing (cut b) port v))) same-board
+      (unless-alike (outRefusal b (length room) port) (writing b port v) (writing (cut b) port v) (writing-alike port v))
+  deeds-alike Reset = unless-alike (roomRefusal (length room)) ResetsAll ResetsAll (record { answer = refl; room = refl; board = refl })
+  deeds-alike (Pins channel dsr dcd cts) = named-alike channel (chip.SetPins dsr dcd cts)
+  deeds-alike (Transmit channel) = named-alike channel chip.Transmit
+  deeds-alike (Receive channel x) = named-alike channel (chip.Receive x)
+  deeds-alike (Outputs channel) = named-alike channel chip.Outputs
+  deeds-alike Interrupts = unless-alike (roomRefusal (length room)) lines lines (alike lines refl refl)
+
+-- of a stored select the low five bits count: every call answers and leaves the room as on the board that has it cut, and, cut, the same board
+pub low-five-count : (b : Board) (room : List Device) (c : Call)
+    → (said b room c ≡ said (cut b) room c) × (roomAfter b room c ≡ roomAfter (cut b) room c) × (cut (boardAfter b room c) ≡ cut (boardAfter (cut b) room c))
+unfolding said roomAfter boardAfter
+low-five-count b room c = let a = deeds-alike b room c in (a .answer, a .room, a .board)
