@@ -152,6 +152,12 @@ selects-board b v = ap (λ (n : ℕ). eqb n (b .number)) (let e : v % 32 / 8 % 4
 abbrev pub cut : Board → Board
 cut b = withSelect b (b .select)
 
+-- what is cut twice is cut once
+cut-twice : (d : Board) → cut d ≡ cut (cut d)
+cut-twice d =
+    ap (λ (n : ℕ). record { number = d .number; select = n; «transmit_mask» = d .«transmit_mask»; «receive_mask» = d .«receive_mask» })
+    (let e : d .select % 32 ≡ d .select % 32 % 32 = omega arith in e)
+
 -- two deeds, of a board and of the same one cut, that answer alike and leave the same room and, cut, the same board
 pub record Alike (b : Board) (r : List Device) (e f : Deed) : Type 0 where
   pub answer : saidBy r e ≡ saidBy r f
@@ -159,12 +165,8 @@ pub record Alike (b : Board) (r : List Device) (e f : Deed) : Type 0 where
   pub board : cut (boardBy b e) ≡ cut (boardBy (cut b) f)
 
 module _ (b : Board) (room : List Device) where
-  -- what is cut twice is cut once, whatever its masks are
-  five-bits : (f : ℕ → Board) → f (b .select % 32) ≡ f (b .select % 32 % 32)
-  five-bits f = ap f (let e : b .select % 32 ≡ b .select % 32 % 32 = omega arith in e)
-
   alike : (e : Deed) → boardBy b e ≡ b → boardBy (cut b) e ≡ cut b → Alike b room e e
-  alike e p q = record { answer = refl; room = refl; board = ap cut p ∙ five-bits (withSelect b) ∙ sym (ap cut q) }
+  alike e p q = record { answer = refl; room = refl; board = ap cut p ∙ cut-twice b ∙ sym (ap cut q) }
 
   same-channel : channelOf b ≡ channelOf (cut b)
   same-channel = sym (selects-channel b (b .select))
@@ -196,8 +198,8 @@ module _ (b : Board) (room : List Device) where
     where
       go : (x y z : Bool) → Alike b room (cond x (Sets (withTransmitMask b v)) (cond y (Sets (withReceiveMask b v)) (cond z (Sets (withSelect b v)) (At (channelOf b) (chip.Write port v)))))
           (cond x (Sets (withTransmitMask (cut b) v)) (cond y (Sets (withReceiveMask (cut b) v)) (cond z (Sets (withSelect (cut b) v)) (At (channelOf (cut b)) (chip.Write port v)))))
-      go true y z = record { answer = refl; room = refl; board = five-bits (withSelect (withTransmitMask b v)) }
-      go false true z = record { answer = refl; room = refl; board = five-bits (withSelect (withReceiveMask b v)) }
+      go true y z = record { answer = refl; room = refl; board = cut-twice (withTransmitMask b v) }
+      go false true z = record { answer = refl; room = refl; board = cut-twice (withReceiveMask b v) }
       go false false true = record { answer = refl; room = refl; board = refl }
       go false false false = at-alike (chip.Write port v)
 
