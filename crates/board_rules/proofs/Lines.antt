@@ -296,6 +296,16 @@ pub still-joined-after : (l : Spots) (w : Boards) (xs : List Step) → Joined l 
 still-joined-after l w [] j = j
 still-joined-after l w (x ∷ xs) j = still-joined-after l (moved l w x) xs (moved-joined l w x j)
 
+pub boards-append : (l : Spots) (w : Boards) (xs ys : List Step) → allMoved l w (xs ++ ys) ≡ allMoved l (allMoved l w xs) ys
+boards-append l w [] ys = refl
+boards-append l w (x ∷ xs) ys = boards-append l (moved l w x) xs ys
+
+pub steps-append : (l : Spots) (w : Boards) (xs ys : List Step) → stepsAt l w (xs ++ ys) ≡ stepsAt l w xs ++ stepsAt l (allMoved l w xs) ys
+steps-append l w [] ys = refl
+steps-append l w (x ∷ xs) ys =
+    ap (λ (ss : List bench.Step). stepsOf l w x ++ ss) (steps-append l (moved l w x) xs ys)
+    ∙ sym (append-assoc (stepsOf l w x) (stepsAt l (moved l w x) xs) (stepsAt l (allMoved l (moved l w x) xs) ys))
+
 -- == what may come between ==
 
 -- a call that makes no chip call at either channel is no step of theirs
@@ -360,20 +370,24 @@ module _ (l : Spots) (w : Boards) where
   unfolding said
   refused-no-step k c h = nowhere k c (λ n. refused-none (cabinet k w .room) (deedOf k c w) n h)
 
-  -- so it is allowed wherever it comes, both ways and one way, and the two stay as they were
-  module _ (x : Step) (xs : List Step) (none : stepsOf l w x ≡ []) where
-    between : stepsAt l w (x ∷ xs) ≡ stepsAt l (moved l w x) xs
-    between = ap (λ (k : List bench.Step). k ++ stepsAt l (moved l w x) xs) none
+  -- so it is allowed wherever it comes, behind any steps xs, both ways and one way, where the rest is, ys from the boards that it leaves; and the two stay as they were
+  module _ (xs : List Step) (x : Step) (ys : List Step) (no-step : stepsOf l (allMoved l w xs) x ≡ []) where
+    abbrev left : Boards
+    left = moved l (allMoved l w xs) x
 
-    pub may-come-between : (a b : Settings) (e : Bench) → allAllowed a b e (stepsAt l w (x ∷ xs)) ≡ allAllowed a b e (stepsAt l (moved l w x) xs)
+    between : stepsAt l w (xs ++ x ∷ ys) ≡ stepsAt l w xs ++ stepsAt l left ys
+    between = steps-append l w xs (x ∷ ys) ∙ ap (λ (ss : List bench.Step). stepsAt l w xs ++ (ss ++ stepsAt l left ys)) no-step
+
+    pub may-come-between : (a b : Settings) (e : Bench) → allAllowed a b e (stepsAt l w (xs ++ x ∷ ys)) ≡ allAllowed a b e (stepsAt l w xs ++ stepsAt l left ys)
     may-come-between a b e = ap (allAllowed a b e) between
 
     pub may-come-between-one-way : (s : Side) (L : ℕ) (e : Logged Pair)
-        → one-way.allAllowed (wayFrom s) L e (stepsAt l w (x ∷ xs)) ≡ one-way.allAllowed (wayFrom s) L e (stepsAt l (moved l w x) xs)
+        → one-way.allAllowed (wayFrom s) L e (stepsAt l w (xs ++ x ∷ ys)) ≡ one-way.allAllowed (wayFrom s) L e (stepsAt l w xs ++ stepsAt l left ys)
     may-come-between-one-way s L e = ap (one-way.allAllowed (wayFrom s) L e) between
 
-    pub between-changes-neither : Joined l w → pairOf l (moved l w x) ≡ pairOf l w
-    between-changes-neither j = step-as-pair l w x j ∙ ap (bench.allMoved (pairOf l w)) none
+    pub between-changes-neither : Joined l w → pairOf l left ≡ pairOf l (allMoved l w xs)
+    between-changes-neither j =
+        step-as-pair l (allMoved l w xs) x (still-joined-after l w xs j) ∙ ap (bench.allMoved (pairOf l (allMoved l w xs))) no-step
 
 -- nor do such calls take a joined tick apart that they come into
 pub aside-none : (l : Spots) (x : Aside) (xs : List Aside) (w : Boards) → stepsOf l w (On (x .which) (x .call)) ≡ [] → asideSteps l xs (called (x .which) (x .call) w) ≡ []
@@ -400,6 +414,13 @@ of-one : (l : Spots) (s : Side) → (same (spotAt s l .which) (l .a .which) || s
 of-one l A = rw (same-itself (l .a .which))
 of-one l B = rw (same-itself (l .b .which)) (or-true (same (l .b .which) (l .a .which)))
 
+-- the first that a reset of the board of either channel is to the two is a chip reset
+resets-first : (l : Spots) (w : Boards) → Joined l w → (s : Side) (rest : List bench.Step) → Heads (stepsOf l w (On (spotAt s l .which) Reset) ++ rest)
+resets-first l w j s rest =
+    let k : Which = spotAt s l .which in
+    subst (λ (n : ℕ). Heads (callSteps l k (unless (roomRefusal n) ResetsAll) ++ rest)) (sym (j .rooms s))
+    (one-heads (same k (l .a .which)) (same k (l .b .which)) rest (of-one l s))
+
 -- where the last steps are not allowed, wherever they begin, no steps with these at their end are
 stops : (a b : Settings) (e : Bench) (ss ts : List bench.Step) → ((e : Bench) → allAllowed a b e ts ≡ false) → allAllowed a b e (ss ++ ts) ≡ false
 stops a b e [] ts h = h e
@@ -409,17 +430,7 @@ stops-one-way : (s : Side) (L : ℕ) (e : Logged Pair) (ss ts : List bench.Step)
     → one-way.allAllowed (wayFrom s) L e (ss ++ ts) ≡ false
 stops-one-way s L e ss ts h = allowed-append (wayFrom s) L e ss ts ∙ rw (h (one-way.runs (wayFrom s) e ss)) (and-false (one-way.allAllowed (wayFrom s) L e ss))
 
-pub boards-append : (l : Spots) (w : Boards) (xs ys : List Step) → allMoved l w (xs ++ ys) ≡ allMoved l (allMoved l w xs) ys
-boards-append l w [] ys = refl
-boards-append l w (x ∷ xs) ys = boards-append l (moved l w x) xs ys
-
-pub steps-append : (l : Spots) (w : Boards) (xs ys : List Step) → stepsAt l w (xs ++ ys) ≡ stepsAt l w xs ++ stepsAt l (allMoved l w xs) ys
-steps-append l w [] ys = refl
-steps-append l w (x ∷ xs) ys =
-    ap (λ (ss : List bench.Step). stepsOf l w x ++ ss) (steps-append l (moved l w x) xs ys)
-    ∙ sym (append-assoc (stepsOf l w x) (stepsAt l (moved l w x) xs) (stepsAt l (allMoved l (moved l w x) xs) ys))
-
--- a reset of the board of either channel, behind any steps xs: the first that it is to the two is a chip reset
+-- behind any steps xs
 module _ (l : Spots) (w : Boards) (j : Joined l w) (xs : List Step) (s : Side) (ys : List Step) where
   abbrev k : Which
   k = spotAt s l .which
@@ -430,13 +441,11 @@ module _ (l : Spots) (w : Boards) (j : Joined l w) (xs : List Step) (s : Side) (
   abbrev resetting : List bench.Step
   resetting = stepsAt l v (On k Reset ∷ ys)
 
-  resets-first : Heads resetting
-  resets-first =
-      let rest : List bench.Step = stepsAt l (called k Reset v) ys in
-      subst (λ (n : ℕ). Heads (callSteps l k (unless (roomRefusal n) ResetsAll) ++ rest)) (sym (still-joined-after l w xs j .rooms s)) (one-heads (same k (l .a .which)) (same k (l .b .which)) rest (of-one l s))
+  first-is : Heads resetting
+  first-is = resets-first l v (still-joined-after l w xs j) s (stepsAt l (called k Reset v) ys)
 
   refused-head : (f : List bench.Step → Bool) → ((t : Side) (ss : List bench.Step) → f (bench.At t chip.Reset ∷ ss) ≡ false) → f resetting ≡ false
-  refused-head f h = ap f (resets-first .1 .1) ∙ h (resets-first .0) (resets-first .1 .0)
+  refused-head f h = ap f (first-is .1 .1) ∙ h (first-is .0) (first-is .1 .0)
 
   pub reset-may-not : (a b : Settings) (e : Bench) → allAllowed a b e (stepsAt l w (xs ++ On k Reset ∷ ys)) ≡ false
   reset-may-not a b e =
@@ -456,6 +465,85 @@ module _ (l : Spots) (w : Boards) (j : Joined l w) (xs : List Step) (s : Side) (
       never A e B ss = refl
       never B e A ss = refl
       never B e B ss = refl
+
+-- == nor may a call that takes a joined tick apart ==
+
+-- from the second chip a single transmit tick of it is not allowed, whatever comes before it and behind it
+second-stops : (L : ℕ) (e : Logged Pair) (ss ts us vs ws : List bench.Step) → one-way.allAllowed (wayFrom B) L e (ss ++ (bench.At B chip.Transmit ∷ ts) ++ us ++ vs ++ ws) ≡ false
+second-stops L e [] ts us vs ws = refl
+second-stops L e (x ∷ ss) ts us vs ws = rw (second-stops L (one-way.step (wayFrom B) e x) ss ts us vs ws) (and-false (one-way.allowed (wayFrom B) L e x))
+
+-- a joined tick behind any steps xs, with something to the two between its four calls: then each of these is a call for itself
+module _ (l : Spots) (w : Boards) (xs : List Step) (m : Between) (ys : List Step) (torn : aloof l m (allMoved l w xs) ≡ false) where
+  abbrev parts : List bench.Step
+  parts = oneByOne l m (allMoved l w xs) ++ stepsAt l (ticked l m (allMoved l w xs)) ys
+
+  parts-are : stepsAt l w (xs ++ Tick m ∷ ys) ≡ stepsAt l w xs ++ parts
+  parts-are =
+      steps-append l w xs (Tick m ∷ ys)
+      ∙ ap (λ (t : Bool). stepsAt l w xs ++ (cond t (bench.Tick ∷ []) (oneByOne l m (allMoved l w xs)) ++ stepsAt l (ticked l m (allMoved l w xs)) ys)) torn
+
+  pub torn-tick-may-not : (a b : Settings) (e : Bench) → allAllowed a b e (stepsAt l w (xs ++ Tick m ∷ ys)) ≡ false
+  torn-tick-may-not a b e = ap (allAllowed a b e) parts-are ∙ stops a b e (stepsAt l w xs) parts (λ e. refl)
+
+  pub torn-tick-may-not-one-way : (t : Side) (L : ℕ) (e : Logged Pair) → one-way.allAllowed (wayFrom t) L e (stepsAt l w (xs ++ Tick m ∷ ys)) ≡ false
+  torn-tick-may-not-one-way t L e = ap (one-way.allAllowed (wayFrom t) L e) parts-are ∙ stops-one-way t L e (stepsAt l w xs) parts (never t)
+    where
+      -- the transmit tick of the end that sends
+      never : (t : Side) (e : Logged Pair) → one-way.allAllowed (wayFrom t) L e parts ≡ false
+      never A e = refl
+      never B e = second-stops L e (bench.At A chip.Transmit ∷ asideSteps l (m .first) (sends l A (allMoved l w xs))) _ _ _ _
+
+-- steps with some at their end are some
+none-behind : (ss ts : List bench.Step) → none ts ≡ false → none (ss ++ ts) ≡ false
+none-behind [] ts h = h
+none-behind (x ∷ ss) ts h = refl
+
+-- a reset of the board of the channel at a side
+abbrev pub resetOf : Spots → Side → Aside
+resetOf l s = record { which = spotAt s l .which; call = Reset }
+
+-- calls with one among them, wherever it stands, are something to the two
+pub reset-among : (l : Spots) (s : Side) (us vs : List Aside) (w : Boards) → Joined l w → none (asideSteps l (us ++ resetOf l s ∷ vs) w) ≡ false
+reset-among l s [] vs w j = ap none (resets-first l w j s (asideSteps l vs (called (spotAt s l .which) Reset w)) .1 .1)
+reset-among l s (x ∷ us) vs w j =
+    let u : Boards = called (x .which) (x .call) w in
+    none-behind (callSteps l (x .which) (deedOf (x .which) (x .call) w)) (asideSteps l (us ++ resetOf l s ∷ vs) u) (reset-among l s us vs u (still-joined l w (x .which) (x .call) j))
+
+-- the three places between the four calls of a joined tick
+pub data Place : Type 0 where
+  First : Place
+  Second : Place
+  Third : Place
+
+abbrev pub asidesAt : Place → Between → List Aside
+asidesAt First m = m .first
+asidesAt Second m = m .second
+asidesAt Third m = m .third
+
+-- at any of these it takes the tick apart
+pub reset-tears : (l : Spots) (m : Between) (w : Boards) → Joined l w → (i : Place) (s : Side) (us vs : List Aside) → asidesAt i m ≡ us ++ resetOf l s ∷ vs → aloof l m w ≡ false
+reset-tears l m w j i s us vs = at i
+  where
+    among : {zs : List Aside} (v : Boards) → Joined l v → zs ≡ us ++ resetOf l s ∷ vs → none (asideSteps l zs v) ≡ false
+    among v j e = ap (λ (zs : List Aside). none (asideSteps l zs v)) e ∙ reset-among l s us vs v j
+
+    at : (i : Place) → asidesAt i m ≡ us ++ resetOf l s ∷ vs → aloof l m w ≡ false
+    at First e = rw (among (sends l A w) (joined-sent l m w j) e)
+    at Second e = rw (among (sends l B (oneSent l m w)) (joined-both l m w j) e, and-false)
+    at Third e = rw (among (hears l A (sent l B (oneSent l m w)) (bothSent l m w)) (joined-heard l m w j) e, and-false)
+
+-- so a reset of the board of either channel is not allowed within a joined tick, behind any steps xs
+module _ (l : Spots) (w : Boards) (j : Joined l w) (xs : List Step) (m : Between) (i : Place) (s : Side) (us vs : List Aside)
+    (within : asidesAt i m ≡ us ++ resetOf l s ∷ vs) (ys : List Step) where
+  torn-so : aloof l m (allMoved l w xs) ≡ false
+  torn-so = reset-tears l m (allMoved l w xs) (still-joined-after l w xs j) i s us vs within
+
+  pub reset-within-may-not : (a b : Settings) (e : Bench) → allAllowed a b e (stepsAt l w (xs ++ Tick m ∷ ys)) ≡ false
+  reset-within-may-not = torn-tick-may-not l w xs m ys torn-so
+
+  pub reset-within-may-not-one-way : (t : Side) (L : ℕ) (e : Logged Pair) → one-way.allAllowed (wayFrom t) L e (stepsAt l w (xs ++ Tick m ∷ ys)) ≡ false
+  reset-within-may-not-one-way = torn-tick-may-not-one-way l w xs m ys torn-so
 
 -- == demand 3 ==
 

@@ -25,10 +25,10 @@ use Rattle.ins2651_rules.specs.Runs as chip
 use Rattle.delivery.specs.Joined.{Side, A, B}
 use Rattle.joined_rules.specs.Joining.{tick}
 use Rattle.joined_rules.specs.Bench as bench
-use Rattle.joined_rules.specs.Demand3.{Settings, Proper, Agree, FromReset, Holds, allAllowed, Right}
+use Rattle.joined_rules.specs.Demand3.{Settings, Proper, Agree, sequence, FromReset, Holds, allAllowed, Right}
 use Rattle.board_rules.specs.Ports.{In, Out, Reset, Pins, Transmit, Receive}
 use Rattle.board_rules.specs.Runs.{boardAfter, roomAfter, Said, said}
-use Rattle.board_rules.specs.Lines.{Boards, One, Two, cabinet, Spots, spotAt, pairOf, Joined, Between, nothing, Step, Tick, On, moved, allMoved, stepsAt, begun, fresh}
+use Rattle.board_rules.specs.Lines.{Boards, Which, One, Two, cabinet, Spots, spotAt, isAt, Joined, Between, nothing, Step, Tick, On, moved, stepsAt, begun, fresh}
 use Rattle.board_rules.proofs.Lines.{channels-demand-3}
 
 -- board 1 and board 2, just reset
@@ -39,21 +39,22 @@ boards =
       two = record { board = record { number = 2; select = 0; «transmit_mask» = 0; «receive_mask» = 0 }; room = replicate 8 resetDevice };
     }
 
+-- any two of their channels, where these are not one and the same
+joined : (l : Spots) → isAt (l .a .which) (l .a .channel) (l .b) ≡ false → l .a .channel < 8 → l .b .channel < 8 → Joined l boards
+joined l apart a b = record { apart = apart; there = there; rooms = λ s. rooms (spotAt s l .which) }
+  where
+    there : (s : Side) → spotAt s l .channel < 8
+    there A = a
+    there B = b
+
+    rooms : (k : Which) → length (cabinet k boards .room) ≡ 8
+    rooms One = refl
+    rooms Two = refl
+
 -- == users 1 and 4 of board 1 ==
 
 abbrev users : Spots
 users = record { a = record { which = One; channel = 1 }; b = record { which = One; channel = 4 } }
-
-users-joined : Joined users boards
-users-joined = record { apart = refl; there = there; rooms = rooms }
-  where
-    there : (s : Side) → spotAt s users .channel < 8
-    there A = omega arith
-    there B = omega arith
-
-    rooms : (s : Side) → length (cabinet (spotAt s users .which) boards .room) ≡ 8
-    rooms A = refl
-    rooms B = refl
 
 -- 65 is 5 bits, no parity, one stop, one tick a bit; 5 is bits 0 and 2
 abbrev five : Settings
@@ -116,13 +117,10 @@ five-agrees : Agree five five
 unfolding formatOf
 five-agrees = record { there = record { factor = refl; length = refl; parity = refl; kind = λ e. refl }; back = record { factor = refl; length = refl; parity = refl; kind = λ e. refl } }
 
-a-holds : Holds five (pairOf users (allMoved users boards set-up) .a)
+-- what document 01's sequence leaves holds them; each of the set-ups here leaves the same at both
+five-holds : Holds five (chip.after resetDevice (sequence five))
 unfolding part oddOnes parityBit sample link-transmitting.transmit link-hearing.receive line-range.inRange senderInRange receiverInRange formatOf statusByte peek inRange settled writeRefusal readRegister read writeRegister write pinned setPins transmitTick transmit receiveTick receive tick boardAfter roomAfter said
-a-holds = record { mode1 = refl; mode2 = refl; command = refl; dsr = refl; dcd = refl; cts = refl }
-
-b-holds : Holds five (pairOf users (allMoved users boards set-up) .b)
-unfolding part oddOnes parityBit sample link-transmitting.transmit link-hearing.receive line-range.inRange senderInRange receiverInRange formatOf statusByte peek inRange settled writeRefusal readRegister read writeRegister write pinned setPins transmitTick transmit receiveTick receive tick boardAfter roomAfter said
-b-holds = record { mode1 = refl; mode2 = refl; command = refl; dsr = refl; dcd = refl; cts = refl }
+five-holds = record { mode1 = refl; mode2 = refl; command = refl; dsr = refl; dcd = refl; cts = refl }
 
 from-reset : FromReset (stepsAt users boards set-up)
 unfolding part oddOnes parityBit sample link-transmitting.transmit link-hearing.receive line-range.inRange senderInRange receiverInRange formatOf statusByte peek inRange settled writeRefusal readRegister read writeRegister write pinned setPins transmitTick transmit receiveTick receive tick boardAfter roomAfter said
@@ -136,7 +134,8 @@ abbrev end : bench.Bench
 end = bench.runs (fresh users boards set-up nothing) (stepsAt users (begun users boards set-up nothing) run)
 
 pub users-right : Right five five end
-users-right = channels-demand-3 users boards users-joined set-up nothing refl run five five five-proper five-proper five-agrees from-reset a-holds b-holds run-allowed
+unfolding part oddOnes parityBit sample link-transmitting.transmit link-hearing.receive line-range.inRange senderInRange receiverInRange formatOf statusByte peek inRange settled writeRefusal readRegister read writeRegister write pinned setPins transmitTick transmit receiveTick receive tick boardAfter roomAfter said
+users-right = channels-demand-3 users boards (joined users refl (omega arith) (omega arith)) set-up nothing refl run five five five-proper five-proper five-agrees from-reset five-holds five-holds run-allowed
 
 -- it comes 1+D = 7 joined ticks after its write
 pub users-there : end .there ≡ record { written = record { at = 0; value = 21 } ∷ []; came = record { at = 7; value = 21 } ∷ []; read = 21 ∷ [] }
@@ -152,17 +151,6 @@ reset-stops = refl
 
 abbrev across : Spots
 across = record { a = record { which = One; channel = 1 }; b = record { which = Two; channel = 4 } }
-
-across-joined : Joined across boards
-across-joined = record { apart = refl; there = there; rooms = rooms }
-  where
-    there : (s : Side) → spotAt s across .channel < 8
-    there A = omega arith
-    there B = omega arith
-
-    rooms : (s : Side) → length (cabinet (spotAt s across .which) boards .room) ≡ 8
-    rooms A = refl
-    rooms B = refl
 
 -- a select is written to both: 9 is user 1 of board 1, and 20 user 4 of board 2
 abbrev select : ℕ → List Step → List Step
@@ -186,14 +174,6 @@ pub across-told : answered across (begun across boards across-up nothing) across
 unfolding part oddOnes parityBit sample link-transmitting.transmit link-hearing.receive line-range.inRange senderInRange receiverInRange formatOf statusByte peek inRange settled writeRefusal readRegister read writeRegister write pinned setPins transmitTick transmit receiveTick receive tick boardAfter roomAfter said
 across-told = refl
 
-across-a-holds : Holds five (pairOf across (allMoved across boards across-up) .a)
-unfolding part oddOnes parityBit sample link-transmitting.transmit link-hearing.receive line-range.inRange senderInRange receiverInRange formatOf statusByte peek inRange settled writeRefusal readRegister read writeRegister write pinned setPins transmitTick transmit receiveTick receive tick boardAfter roomAfter said
-across-a-holds = record { mode1 = refl; mode2 = refl; command = refl; dsr = refl; dcd = refl; cts = refl }
-
-across-b-holds : Holds five (pairOf across (allMoved across boards across-up) .b)
-unfolding part oddOnes parityBit sample link-transmitting.transmit link-hearing.receive line-range.inRange senderInRange receiverInRange formatOf statusByte peek inRange settled writeRefusal readRegister read writeRegister write pinned setPins transmitTick transmit receiveTick receive tick boardAfter roomAfter said
-across-b-holds = record { mode1 = refl; mode2 = refl; command = refl; dsr = refl; dcd = refl; cts = refl }
-
 across-from-reset : FromReset (stepsAt across boards across-up)
 unfolding part oddOnes parityBit sample link-transmitting.transmit link-hearing.receive line-range.inRange senderInRange receiverInRange formatOf statusByte peek inRange settled writeRefusal readRegister read writeRegister write pinned setPins transmitTick transmit receiveTick receive tick boardAfter roomAfter said
 across-from-reset = record { calls = refl; a-reset = refl; b-reset = refl }
@@ -203,4 +183,5 @@ unfolding part oddOnes parityBit sample link-transmitting.transmit link-hearing.
 across-allowed = refl
 
 pub across-right : Right five five (bench.runs (fresh across boards across-up nothing) (stepsAt across (begun across boards across-up nothing) across-run))
-across-right = channels-demand-3 across boards across-joined across-up nothing refl across-run five five five-proper five-proper five-agrees across-from-reset across-a-holds across-b-holds across-allowed
+unfolding part oddOnes parityBit sample link-transmitting.transmit link-hearing.receive line-range.inRange senderInRange receiverInRange formatOf statusByte peek inRange settled writeRefusal readRegister read writeRegister write pinned setPins transmitTick transmit receiveTick receive tick boardAfter roomAfter said
+across-right = channels-demand-3 across boards (joined across refl (omega arith) (omega arith)) across-up nothing refl across-run five five five-proper five-proper five-agrees across-from-reset five-holds five-holds across-allowed
