@@ -117,14 +117,27 @@ static interfacer3 waiting(int may, int hold) {
 
 static void interrupt_status(void) {
     interfacer3 i3 = waiting(0x52, 0x8C); /* users 1, 4 and 6; users 2, 3 and 7 */
-    i3_pins(&i3, 1, 1, 1, 1);             /* a change, whose mark a read of its status would clear */
+    for (uint8_t k = 0; k < CHANNELS; k++)
+        i3_pins(&i3, k, 1, 1, 1); /* a change, which is no interrupt, and whose mark a read of its status would clear */
     interfacer3 before = i3;
     holds(i3_in(&i3, INTERFACER3_TRANSMIT_INTERRUPTS) == 0x52, "INTERFACER3_TRANSMIT_INTERRUPTS, with every interrupt masked");
     holds(i3_in(&i3, INTERFACER3_RECEIVE_INTERRUPTS) == 0x8C, "INTERFACER3_RECEIVE_INTERRUPTS, with every interrupt masked");
     holds(i3_interrupts(&i3) == 0, "no line is asserted with every interrupt masked");
     holds(same_boards(&i3, &before), "a look at the interrupts changes nothing");
-    memset(&i3.channel[4], 0xAA, sizeof i3.channel[4]);
-    holds(i3_in(&i3, INTERFACER3_TRANSMIT_INTERRUPTS) == 0x42, "a channel out of range counts as one just reset");
+}
+
+/* One byte of a channel that may be written, and of one that holds a character, is out of range: the pointer to the modes. */
+static void interrupts_out_of_range(void) {
+    interfacer3 i3 = waiting(0x52, 0x8C);
+    i3.board.transmit_mask = i3.board.receive_mask = 0xFF;
+    holds(i3_interrupts(&i3) == 0x8C52, "every line that is pending is asserted with every interrupt enabled");
+    i3.channel[4].registers.modes = 2;
+    i3.channel[2].registers.modes = 2;
+    interfacer3 before = i3;
+    holds(i3_in(&i3, INTERFACER3_TRANSMIT_INTERRUPTS) == 0x42, "INTERFACER3_TRANSMIT_INTERRUPTS: out of range counts as just reset");
+    holds(i3_in(&i3, INTERFACER3_RECEIVE_INTERRUPTS) == 0x88, "INTERFACER3_RECEIVE_INTERRUPTS: out of range counts as just reset");
+    holds(i3_interrupts(&i3) == 0x8842, "i3_interrupts: out of range counts as just reset");
+    holds(same_boards(&i3, &before), "a look at the interrupts leaves a channel out of range as it is");
 }
 
 static void masks(void) {
@@ -183,28 +196,36 @@ static void pins_and_outputs(void) {
 
 /* == the refusals == */
 
-/* Every call with a room of other than eight, before anything else is looked at. */
+/* Every call with this count of channels is refused before anything else is looked at. */
+static void refuses_room(interfacer3_board *board, ins2651 *room, size_t channels) {
+    for (int at = 0; at <= 255; at++) {
+        uint8_t place = (uint8_t)at;
+        int refused = refuses(interfacer3_in(board, room, channels, place), INTERFACER3_WRONG_ROOM)
+            && refuses(interfacer3_out(board, room, channels, place, 64), INTERFACER3_WRONG_ROOM)
+            && refuses(interfacer3_pins(board, room, channels, place, 2, 2, 2), INTERFACER3_WRONG_ROOM)
+            && refuses(interfacer3_transmit(board, room, channels, place), INTERFACER3_WRONG_ROOM)
+            && refuses(interfacer3_receive(board, room, channels, place, 2), INTERFACER3_WRONG_ROOM)
+            && refuses(interfacer3_outputs(board, room, channels, place), INTERFACER3_WRONG_ROOM);
+        holds(refused, "INTERFACER3_WRONG_ROOM comes before every other refusal");
+    }
+    holds(refuses(interfacer3_reset(board, room, channels), INTERFACER3_WRONG_ROOM), "INTERFACER3_WRONG_ROOM of a reset");
+    uint32_t lines = interfacer3_interrupts(board, room, channels);
+    holds(lines == (uint32_t)INTERFACER3_WRONG_ROOM << 16, "INTERFACER3_WRONG_ROOM of the interrupts");
+}
+
+/* Counts below eight, then nine, three whose low 8, 16 or 32 bits are eight, one whose count of bytes is that of eight in 64 bits, and the
+ * largest. The room has eight channels, whatever is said of it, and none of them is to be touched. */
 static void wrong_rooms(void) {
-    interfacer3 i3 = set_up(INS2651_COMMAND_TRANSMIT);
-    selects(&i3, 1, 0);
-    interfacer3 before = i3;
-    interfacer3_board *board = &i3.board;
-    ins2651 *room = i3.channel;
-    for (uint8_t channels = 0; channels < CHANNELS; channels++)
-        for (int at = 0; at <= 255; at++) {
-            uint8_t place = (uint8_t)at;
-            int refused = refuses(interfacer3_in(board, room, channels, place), INTERFACER3_WRONG_ROOM)
-                && refuses(interfacer3_out(board, room, channels, place, 64), INTERFACER3_WRONG_ROOM)
-                && refuses(interfacer3_pins(board, room, channels, place, 2, 2, 2), INTERFACER3_WRONG_ROOM)
-                && refuses(interfacer3_transmit(board, room, channels, place), INTERFACER3_WRONG_ROOM)
-                && refuses(interfacer3_receive(board, room, channels, place, 2), INTERFACER3_WRONG_ROOM)
-                && refuses(interfacer3_outputs(board, room, channels, place), INTERFACER3_WRONG_ROOM);
-            holds(refused, "INTERFACER3_WRONG_ROOM comes before every other refusal");
-        }
-    holds(refuses(interfacer3_reset(board, room, 7), INTERFACER3_WRONG_ROOM), "INTERFACER3_WRONG_ROOM of a reset");
-    uint32_t lines = interfacer3_interrupts(board, room, 7);
-    holds(INTERFACER3_LINES_REFUSAL(lines) == INTERFACER3_WRONG_ROOM && lines % 65536 == 0, "INTERFACER3_WRONG_ROOM of the interrupts");
-    holds(same_boards(&i3, &before), "a wrong room: nothing moves");
+    static const size_t larger[] = {9, 0x108, 0x10008, 0x100000008, 0x4000000000000008, (size_t)-1};
+    interfacer3 i3 = waiting(0xFF, 0xFF);
+    i3.board.transmit_mask = i3.board.receive_mask = 0xFF;
+    for (int number = 0; number < 2; number++) {
+        selects(&i3, number, 3); /* this board, then another */
+        interfacer3 before = i3;
+        for (size_t channels = 0; channels < CHANNELS; channels++) refuses_room(&i3.board, i3.channel, channels);
+        for (int k = 0; k < 6; k++) refuses_room(&i3.board, i3.channel, larger[k]);
+        holds(same_boards(&i3, &before), "a wrong room: nothing moves");
+    }
 }
 
 static void larger_rooms(void) {
@@ -267,6 +288,7 @@ int main(void) {
     user_select();
     ports_of_a_channel();
     interrupt_status();
+    interrupts_out_of_range();
     masks();
     ticks_of_any_channel();
     pins_and_outputs();
