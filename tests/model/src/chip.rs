@@ -44,8 +44,8 @@ enum Receiver {
     Hearing { format: Format, samples: Vec<bool> },
 }
 
-/// One chip. Its fields are compared in the tests only, to see that a refused
-/// call leaves all of them alone.
+/// One chip. Whole chips are compared by what watches calls, to see whether one of
+/// their fields changed, and by no rule.
 #[derive(Clone, Debug, PartialEq, Eq)]
 pub struct Chip {
     /// Nothing while no mode 1 has been accepted since reset.

@@ -144,7 +144,7 @@ fn a_1_in_a_mask_enables() {
 
 #[test]
 fn a_board_answers_its_own_users() {
-    // "To select user 5, a 05H must be sent"; board 1 has users 8 to 15.
+    // Users 0 to 7 are of board 0, users 8 to 15 of board 1.
     let mut first = Rig::numbered(0);
     let mut second = Rig::numbered(1);
     for user in [0, 5, 7] {
