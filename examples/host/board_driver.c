@@ -8,13 +8,16 @@
  *     device PLACE HEX                 0                  the 44 bytes at a place 0 to 8 of the room are set, by exactly 88 digits 0-9, a-f
  *     bytes PLACE                      HEX                its 44 bytes, the padding as 00
  *     in PORT                          REFUSAL VALUE
- *     out PORT VALUE                   REFUSAL
- *     reset                            REFUSAL
- *     pins CHANNEL DSR DCD CTS         REFUSAL
+ *     out PORT VALUE                   REFUSAL 0
+ *     reset                            REFUSAL 0
+ *     pins CHANNEL DSR DCD CTS         REFUSAL 0
  *     transmit CHANNEL                 REFUSAL LEVEL      the level sent
- *     receive CHANNEL LEVEL            REFUSAL
+ *     receive CHANNEL LEVEL            REFUSAL 0
  *     outputs CHANNEL                  REFUSAL TXRDY RXRDY TXEMT DTR RTS
  *     interrupts                       REFUSAL RECEIVE TRANSMIT
+ *
+ * Every bit of an answer is shown, so that a wrong one is seen: each 0 above is the value answered, the refusal of the interrupts has all
+ * bits from 16 on, and a further number follows RTS where a bit above those of the outputs is set.
  *
  * Numbers are decimal, 0 to 255. Both boards begin as just reset, board 0 with the number 0 and board 1 with the number 1, lent with eight
  * channels, and board 0 is used. A line of another form, or of more than 126 bytes, ends the program with status 2, and so do an input that
@@ -33,15 +36,14 @@ typedef struct {
 static unit units[BOARDS];
 static unit *used = &units[0];
 
-static void print_refusal(unsigned answer) { printf("%u\n", INTERFACER3_REFUSAL(answer)); }
-
 static void print_refusal_and_outputs(unsigned answer) {
     printf("%u ", INTERFACER3_REFUSAL(answer));
     print_outputs(INTERFACER3_VALUE(answer));
 }
 
+/* INTERFACER3_LINES_REFUSAL would leave out bits 24 to 31. */
 static void print_lines(uint32_t answer) {
-    printf("%u %u %u\n", INTERFACER3_LINES_REFUSAL(answer), INTERFACER3_RECEIVE_LINES(answer), INTERFACER3_TRANSMIT_LINES(answer));
+    printf("%u %u %u\n", (unsigned)(answer >> 16), INTERFACER3_RECEIVE_LINES(answer), INTERFACER3_TRANSMIT_LINES(answer));
 }
 
 static void print_fields(const interfacer3_board *board) {
@@ -68,13 +70,13 @@ static int does(const char *line) {
     size_t channels = used->channels;
     uint8_t n[4];
     if (is(line, "transmit", 1, n)) print_refusal_and_value(interfacer3_transmit(board, room, channels, n[0]));
-    else if (is(line, "receive", 2, n)) print_refusal(interfacer3_receive(board, room, channels, n[0], n[1]));
+    else if (is(line, "receive", 2, n)) print_refusal_and_value(interfacer3_receive(board, room, channels, n[0], n[1]));
     else if (is(line, "in", 1, n)) print_refusal_and_value(interfacer3_in(board, room, channels, n[0]));
-    else if (is(line, "out", 2, n)) print_refusal(interfacer3_out(board, room, channels, n[0], n[1]));
-    else if (is(line, "pins", 4, n)) print_refusal(interfacer3_pins(board, room, channels, n[0], n[1], n[2], n[3]));
+    else if (is(line, "out", 2, n)) print_refusal_and_value(interfacer3_out(board, room, channels, n[0], n[1]));
+    else if (is(line, "pins", 4, n)) print_refusal_and_value(interfacer3_pins(board, room, channels, n[0], n[1], n[2], n[3]));
     else if (is(line, "outputs", 1, n)) print_refusal_and_outputs(interfacer3_outputs(board, room, channels, n[0]));
     else if (is(line, "interrupts", 0, n)) print_lines(interfacer3_interrupts(board, room, channels));
-    else if (is(line, "reset", 0, n)) print_refusal(interfacer3_reset(board, room, channels));
+    else if (is(line, "reset", 0, n)) print_refusal_and_value(interfacer3_reset(board, room, channels));
     else if (is(line, "fields", 0, n)) print_fields(board);
     else if (is(line, "bytes", 1, n) && n[0] < PLACES) print_bytes(&room[n[0]]);
     else if (sets(line)) printf("0\n");

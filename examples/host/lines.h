@@ -63,9 +63,13 @@ static void print_refusal_and_value(unsigned answer) {
     printf("%u %u\n", INS2651_REFUSAL(answer), INS2651_VALUE(answer));
 }
 
+/* The levels, and behind them the bits that are none of theirs, where one is set: no such bit of a wrong answer is lost. */
 static void print_outputs(unsigned levels) {
-    printf("%d %d %d %d %d\n", (levels & INS2651_TXRDY) != 0, (levels & INS2651_RXRDY) != 0,
+    unsigned others = levels & ~(unsigned)(INS2651_TXRDY | INS2651_RXRDY | INS2651_TXEMT | INS2651_DTR | INS2651_RTS);
+    printf("%d %d %d %d %d", (levels & INS2651_TXRDY) != 0, (levels & INS2651_RXRDY) != 0,
            (levels & INS2651_TXEMT) != 0, (levels & INS2651_DTR) != 0, (levels & INS2651_RTS) != 0);
+    if (others) printf(" %u", others);
+    printf("\n");
 }
 
 /* The next line without its newline: 1, or 0 at the end of the input, or -1 where it is too long or has a NUL. */

@@ -30,6 +30,14 @@ pub struct Board {
     pub receive_mask: u8,
 }
 
+/// The refusal, and the values: the byte read, the level sent, the levels of the
+/// outputs, the interrupts of both kinds, or one that is always 0. All are 0 where the
+/// call is refused.
+pub type Answer = (u8, Vec<u8>);
+
+/// The values of a call that has nothing to tell.
+const NO_VALUE: [u8; 1] = [0];
+
 #[derive(Clone, Copy, Debug, PartialEq, Eq)]
 pub enum Call {
     /// A read of a port.
@@ -72,15 +80,14 @@ impl Call {
         Call::NAMES[place]
     }
 
-    /// The values that it answers beside its refusal: the byte read, the level
-    /// sent, the levels of the outputs, or the interrupts of both kinds.
-    fn values(&self) -> usize {
-        match self {
-            Call::In(_) | Call::Transmit(_) => 1,
+    /// What it answers where it is refused.
+    pub fn refused(&self, refusal: u8) -> Answer {
+        let values = match self {
             Call::Outputs(_) => 5,
             Call::Interrupts => 2,
-            Call::Out(..) | Call::Reset | Call::Pins(..) | Call::Receive(..) => 0,
-        }
+            _ => 1,
+        };
+        (refusal, vec![0; values])
     }
 }
 
@@ -105,8 +112,7 @@ impl Board {
         self.select % 8
     }
 
-    /// The refusal, and the values, which are 0 where the call is refused.
-    pub fn call(&mut self, room: &mut [Lent], call: &Call) -> (u8, Vec<u8>) {
+    pub fn call(&mut self, room: &mut [Lent], call: &Call) -> Answer {
         let answer = if room.len() == CHANNELS {
             self.done(room, call)
         } else {
@@ -114,7 +120,7 @@ impl Board {
         };
         match answer {
             Ok(values) => (0, values),
-            Err(refusal) => (refusal, vec![0; call.values()]),
+            Err(refusal) => call.refused(refusal),
         }
     }
 
@@ -127,7 +133,7 @@ impl Board {
                 *self = Board::numbered(self.number);
                 room.iter_mut()
                     .for_each(|lent| drop(lent.call(&ChipCall::Reset)));
-                Ok(Vec::new())
+                Ok(NO_VALUE.to_vec())
             }
             Call::Pins(channel, levels) => on_channel(room, channel, ChipCall::Pins(levels)),
             Call::Transmit(channel) => on_channel(room, channel, ChipCall::Transmit),
@@ -160,7 +166,7 @@ impl Board {
             4 => self.transmit_mask = value,
             5 => self.receive_mask = value,
         }
-        Ok(Vec::new())
+        Ok(NO_VALUE.to_vec())
     }
 }
 
@@ -172,7 +178,7 @@ fn on_channel(room: &mut [Lent], channel: u8, call: ChipCall) -> Result<Vec<u8>,
         _ if refusal != 0 => Err(refusal),
         ChipCall::Read(_) => Ok(answer[1..].to_vec()),
         ChipCall::Transmit | ChipCall::Outputs => Ok(answer),
-        _ => Ok(Vec::new()),
+        _ => Ok(NO_VALUE.to_vec()),
     }
 }
 

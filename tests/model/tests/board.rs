@@ -3,7 +3,7 @@
 //! has them.
 
 use model::board::lines::{Bench, Line, Side};
-use model::board::{Board, Call, CHANNELS};
+use model::board::{Answer, Board, Call, CHANNELS};
 use model::calls::{Call as ChipCall, Lent, DEVICE_BYTES};
 use model::chip::{set_up, Chip};
 use model::ranges::in_range;
@@ -45,7 +45,7 @@ impl Rig {
         rig
     }
 
-    fn call(&mut self, call: Call) -> (u8, Vec<u8>) {
+    fn call(&mut self, call: Call) -> Answer {
         self.board.call(&mut self.room, &call)
     }
 
@@ -427,18 +427,18 @@ fn lines_as_the_driver_takes_them_and_answers() {
         (Line::Call(Call::In(1)), "in 1", "9 0"),
         (Line::Set(board), "board 2 255 82 140", "0"),
         (Line::Fields, "fields", "2 255 82 140"),
-        (Line::Call(Call::Out(7, 52)), "out 7 52", "0"),
+        (Line::Call(Call::Out(7, 52)), "out 7 52", "0 0"),
         (Line::Fields, "fields", "2 20 82 140"),
-        (Line::Call(Call::Out(3, 1)), "out 3 1", "0"),
+        (Line::Call(Call::Out(3, 1)), "out 3 1", "0 0"),
         (Line::Call(Call::In(4)), "in 4", "0 16"),
         (Line::Call(Call::Interrupts), "interrupts", "0 0 16"),
         (Line::Call(Call::Outputs(4)), "outputs 4", "0 0 1 1 1 1"),
         (Line::Call(Call::Transmit(4)), "transmit 4", "0 1"),
-        (Line::Call(Call::Receive(4, 2)), "receive 4 2", "2"),
-        (Line::Call(Call::Pins(4, [0, 1, 0])), "pins 4 0 1 0", "0"),
+        (Line::Call(Call::Receive(4, 2)), "receive 4 2", "2 0"),
+        (Line::Call(Call::Pins(4, [0, 1, 0])), "pins 4 0 1 0", "0 0"),
         (Line::Count(9), "count 9", "0"),
         (Line::Call(Call::Outputs(4)), "outputs 4", "10 0 0 0 0 0"),
-        (Line::Call(Call::Reset), "reset", "10"),
+        (Line::Call(Call::Reset), "reset", "10 0"),
         (Line::Bytes(8), "bytes 8", &reset),
     ] {
         assert_eq!(line.to_string(), text);

@@ -2,7 +2,7 @@
 //! a call on each line and one line for its answer. Further lines say which board
 //! is called and with how many channels, and set and show boards and devices.
 
-use super::{Board, Call, CHANNELS};
+use super::{Answer, Board, Call, CHANNELS};
 use crate::calls::{hexadecimal, numbers, Difference, Lent, DEVICE_BYTES};
 use crate::chip::Chip;
 use crate::shorten::{shorten, smaller};
@@ -79,8 +79,7 @@ impl Side {
         }
     }
 
-    /// The refusal and the values.
-    pub fn call(&mut self, call: &Call) -> (u8, Vec<u8>) {
+    pub fn call(&mut self, call: &Call) -> Answer {
         self.board.call(&mut self.room[..self.count], call)
     }
 
@@ -91,7 +90,7 @@ impl Side {
 }
 
 /// How a call is made; that of a wrong board is another than `Side::call`.
-pub type Make = fn(&mut Side, &Call) -> (u8, Vec<u8>);
+pub type Make = fn(&mut Side, &Call) -> Answer;
 
 /// The boards of the driver.
 #[derive(Clone)]
@@ -115,8 +114,7 @@ impl Bench {
         &self.sides[self.used]
     }
 
-    /// The refusal and the values of a call.
-    pub fn call(&mut self, call: &Call) -> (u8, Vec<u8>) {
+    pub fn call(&mut self, call: &Call) -> Answer {
         (self.make)(&mut self.sides[self.used], call)
     }
 

@@ -182,7 +182,7 @@ impl Reach {
                 let (refusal, values) = bench.call(call);
                 self.called(&before, call, refusal);
                 self.inside(&before, call, refusal);
-                ticks.push((bench.used, *call, values.first().copied().unwrap_or(0)));
+                ticks.push((bench.used, *call, values[0]));
                 if refusal == 0 {
                     self.arrived(&before, &ticks);
                 }

@@ -1,11 +1,9 @@
 //! Wrong boards: what each does with a call. `ALL` names them.
 
 use model::board::lines::{Make, Side};
-use model::board::{pending, Board, Call, CHANNELS};
+use model::board::{pending, Answer, Board, Call, CHANNELS};
 use model::calls::{Call as ChipCall, Lent};
 use model::chip::Chip;
-
-type Answer = (u8, Vec<u8>);
 
 pub const ALL: [(&str, Make); 50] = [
     ("a transmit tick ticks the next channel too", next_transmits),
@@ -135,16 +133,6 @@ fn goes_nowhere(call: &Call) -> bool {
         Call::Transmit(channel) | Call::Outputs(channel) => channel > 7,
         Call::Reset | Call::Interrupts => false,
     }
-}
-
-fn refused(call: &Call, refusal: u8) -> Answer {
-    let values = match call {
-        Call::In(_) | Call::Transmit(_) => 1,
-        Call::Outputs(_) => 5,
-        Call::Interrupts => 2,
-        _ => 0,
-    };
-    (refusal, vec![0; values])
 }
 
 // Neighbours.
@@ -300,7 +288,7 @@ fn select_is_stored_whole(side: &mut Side, call: &Call) -> Answer {
 fn port_7_is_refused(side: &mut Side, call: &Call) -> Answer {
     let wrong = matches!(call, Call::Out(7, _)) && side.count == CHANNELS;
     if wrong && !side.board.is_selected() {
-        return refused(call, 9);
+        return call.refused(9);
     }
     side.call(call)
 }
@@ -319,7 +307,7 @@ fn board_255_is_selected(side: &mut Side, call: &Call) -> Answer {
 fn stored_bits_count(side: &mut Side, call: &Call) -> Answer {
     let asked = matches!(call, Call::In(0..=5) | Call::Out(0..=5, _));
     if asked && side.board.select > 31 && side.count == CHANNELS {
-        return refused(call, 9);
+        return call.refused(9);
     }
     side.call(call)
 }
@@ -352,7 +340,7 @@ fn bit_2_does_not_count(side: &mut Side, call: &Call) -> Answer {
 fn select_is_the_selected_boards(side: &mut Side, call: &Call) -> Answer {
     let right = side.call(&Call::Interrupts).0;
     match call {
-        Call::Out(7, _) if !side.board.is_selected() => refused(call, right),
+        Call::Out(7, _) if !side.board.is_selected() => call.refused(right),
         _ => side.call(call),
     }
 }
@@ -361,7 +349,7 @@ fn select_is_the_selected_boards(side: &mut Side, call: &Call) -> Answer {
 
 fn port_before_room(side: &mut Side, call: &Call) -> Answer {
     if goes_nowhere(call) {
-        return refused(call, 8);
+        return call.refused(8);
     }
     side.call(call)
 }
@@ -369,7 +357,7 @@ fn port_before_room(side: &mut Side, call: &Call) -> Answer {
 fn select_before_room(side: &mut Side, call: &Call) -> Answer {
     let asked = matches!(call, Call::In(0..=5) | Call::Out(0..=5, _));
     if asked && !side.board.is_selected() {
-        return refused(call, 9);
+        return call.refused(9);
     }
     side.call(call)
 }
@@ -377,21 +365,21 @@ fn select_before_room(side: &mut Side, call: &Call) -> Answer {
 fn select_before_port(side: &mut Side, call: &Call) -> Answer {
     let asked = matches!(call, Call::In(_) | Call::Out(0..=6 | 8.., _));
     if asked && !side.board.is_selected() && side.count == CHANNELS {
-        return refused(call, 9);
+        return call.refused(9);
     }
     side.call(call)
 }
 
 fn level_before_channel(side: &mut Side, call: &Call) -> Answer {
     match *call {
-        Call::Receive(8.., 2..) if side.count == CHANNELS => refused(call, 2),
+        Call::Receive(8.., 2..) if side.count == CHANNELS => call.refused(2),
         _ => side.call(call),
     }
 }
 
 fn command_before_select(side: &mut Side, call: &Call) -> Answer {
     match *call {
-        Call::Out(3, 64..) if side.count == CHANNELS => refused(call, 5),
+        Call::Out(3, 64..) if side.count == CHANNELS => call.refused(5),
         _ => side.call(call),
     }
 }
@@ -399,7 +387,7 @@ fn command_before_select(side: &mut Side, call: &Call) -> Answer {
 fn tick_is_refused(side: &mut Side, call: &Call) -> Answer {
     match call {
         Call::Transmit(0..=7) if !side.board.is_selected() && side.count == CHANNELS => {
-            refused(call, 9)
+            call.refused(9)
         }
         _ => side.call(call),
     }
@@ -407,7 +395,7 @@ fn tick_is_refused(side: &mut Side, call: &Call) -> Answer {
 
 fn interrupts_are_refused(side: &mut Side, call: &Call) -> Answer {
     match call {
-        Call::Interrupts if !side.board.is_selected() && side.count == CHANNELS => refused(call, 9),
+        Call::Interrupts if !side.board.is_selected() && side.count == CHANNELS => call.refused(9),
         _ => side.call(call),
     }
 }
@@ -482,7 +470,7 @@ fn reset_leaves_garbage(side: &mut Side, call: &Call) -> Answer {
 fn reset_is_refused(side: &mut Side, call: &Call) -> Answer {
     let unselected = !side.board.is_selected() && side.count == CHANNELS;
     if *call == Call::Reset && unselected {
-        return refused(call, 9);
+        return call.refused(9);
     }
     side.call(call)
 }
