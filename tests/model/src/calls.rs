@@ -2,7 +2,8 @@
 //! its answer. Two more lines set and show the bytes of the lent device.
 
 use crate::chip::{Chip, View};
-use crate::shorten::{shorten, smaller};
+use crate::driver::Entry;
+use crate::shorten::{smaller_bytes, smaller_levels};
 use std::fmt;
 
 /// The bytes of a device in C's layout (docs/RANGES.md).
@@ -207,82 +208,41 @@ pub fn numbers(all: &[u8]) -> String {
     words.join(" ")
 }
 
-/// The driver's input for `lines`.
-pub fn text(lines: &[Line]) -> String {
-    lines.iter().map(|line| format!("{line}\n")).collect()
-}
+impl Entry for Line {
+    type Model = Lent;
 
-/// Where a driver's answers first differ from the model's.
-#[derive(Debug, PartialEq, Eq)]
-pub struct Difference {
-    /// From 0; the number of lines where the driver answers too much.
-    pub line: usize,
-    pub model: String,
-    pub driver: String,
-}
-
-/// The first difference between the model and the driver's whole output for
-/// `lines`, which begin with a reset or a device.
-pub fn difference(lines: &[Line], output: &str) -> Option<Difference> {
-    const NOTHING: &str = "no line";
-    let mut lent = Lent::InRange(Chip::just_reset());
-    let mut answers = output.split_terminator('\n');
-    for (line, call) in lines.iter().enumerate() {
-        let model = lent.answer(call);
-        let driver = answers.next().unwrap_or(NOTHING);
-        if model != driver {
-            return Some(Difference {
-                line,
-                model,
-                driver: driver.to_string(),
-            });
-        }
+    fn start() -> Lent {
+        Lent::InRange(Chip::just_reset())
     }
-    answers.next().map(|further| Difference {
-        line: lines.len(),
-        model: NOTHING.to_string(),
-        driver: further.to_string(),
-    })
-}
 
-/// The shortest run found that still differs.
-pub fn shortest(lines: &[Line], differs: impl Fn(&[Line]) -> bool) -> Vec<Line> {
-    let differs = |lines: &[Line]| begins_known(lines) && differs(lines);
-    shorten(lines.to_vec(), simpler_lines, differs)
-}
+    fn answer(&self, lent: &mut Lent) -> String {
+        lent.answer(self)
+    }
 
-/// Whether a run begins with a device that the model knows.
-fn begins_known(lines: &[Line]) -> bool {
-    matches!(
-        lines.first(),
-        Some(Line::Call(Call::Reset) | Line::Device(..))
-    )
-}
+    /// A shortened run says itself what its device is at first.
+    fn may_begin(&self) -> bool {
+        matches!(self, Line::Call(Call::Reset) | Line::Device(..))
+    }
 
-/// `line` with one number smaller.
-fn simpler_lines(line: &Line) -> Vec<Line> {
-    let less = |number: u8| {
-        smaller(number.into())
-            .into_iter()
-            .map(|number| number as u8)
-    };
-    let calls: Vec<Call> = match *line {
-        Line::Call(Call::Read(address)) => less(address).map(Call::Read).collect(),
-        Line::Call(Call::Receive(level)) => less(level).map(Call::Receive).collect(),
-        Line::Call(Call::Tick(level)) => less(level).map(Call::Tick).collect(),
-        Line::Call(Call::Write(address, value)) => less(value)
-            .map(|value| Call::Write(address, value))
-            .collect(),
-        Line::Call(Call::Pins(levels)) => (0..3)
-            .flat_map(|pin| {
-                less(levels[pin]).map(move |level| {
-                    let mut levels = levels;
-                    levels[pin] = level;
-                    Call::Pins(levels)
-                })
-            })
-            .collect(),
-        _ => Vec::new(),
-    };
-    calls.into_iter().map(Line::Call).collect()
+    fn is_call(&self) -> bool {
+        matches!(self, Line::Call(_))
+    }
+
+    fn simpler(&self) -> Vec<Line> {
+        let Line::Call(call) = *self else {
+            return Vec::new();
+        };
+        let calls: Vec<Call> = match call {
+            Call::Read(address) => smaller_bytes(address).map(Call::Read).collect(),
+            Call::Receive(level) => smaller_bytes(level).map(Call::Receive).collect(),
+            Call::Tick(level) => smaller_bytes(level).map(Call::Tick).collect(),
+            Call::Write(address, value) => smaller_bytes(value)
+                .map(|value| Call::Write(address, value))
+                .collect(),
+            Call::Pins(levels) => smaller_levels(levels).map(Call::Pins).collect(),
+            Call::Reset | Call::Transmit => Vec::new(),
+            Call::Outputs | Call::Peek | Call::InRange => Vec::new(),
+        };
+        calls.into_iter().map(Line::Call).collect()
+    }
 }

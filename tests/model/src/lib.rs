@@ -8,14 +8,16 @@
 //! the device that it lends. The module `board` has eight chips on one board and the
 //! text of its driver. The other modules are the random tests from outside:
 //! `generate` draws sessions, runs of calls and devices, `program` runs the
-//! proved program, `delivery` holds an answer to demand 3 without the chip,
-//! `reach` counts what was reached and `shorten` cuts a difference down.
+//! proved program, `driver` compares a C driver's answers with the model's,
+//! `delivery` holds an answer to demand 3 without the chip, `reach` counts what
+//! was reached and `shorten` cuts a difference down.
 
 pub mod board;
 pub mod calls;
 pub mod chip;
 pub mod delivery;
 pub mod draw;
+pub mod driver;
 pub mod generate;
 pub mod program;
 pub mod ranges;

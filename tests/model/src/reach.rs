@@ -145,15 +145,8 @@ impl Reach {
         (text, whole)
     }
 
-    /// Prints the counts. A run that did not reach all has failed.
     pub fn conclude(&self) -> ExitCode {
-        let (report, whole) = self.report();
-        print!("{report}");
-        if whole {
-            return ExitCode::SUCCESS;
-        }
-        println!("what is MISSING was not reached");
-        ExitCode::FAILURE
+        conclude(self.report(), "not reached")
     }
 
     /// A transmit tick ("Sending").
@@ -358,6 +351,17 @@ impl Reach {
             self.count("ticks of both with an arrival");
         }
     }
+}
+
+/// Prints the counts. A run that did not reach all has failed, and says what is wrong
+/// with those that are missing.
+pub fn conclude((report, whole): (String, bool), missing: &str) -> ExitCode {
+    print!("{report}");
+    if whole {
+        return ExitCode::SUCCESS;
+    }
+    println!("what is MISSING was {missing}");
+    ExitCode::FAILURE
 }
 
 fn on_garbage(garbage: Garbage, call: &str) -> String {

@@ -84,6 +84,22 @@ pub fn smaller(number: u32) -> Vec<u32> {
     all
 }
 
+pub fn smaller_bytes(number: u8) -> impl Iterator<Item = u8> {
+    let all = smaller(number.into());
+    all.into_iter().map(|number| number as u8)
+}
+
+/// The levels of three pins with one of them smaller.
+pub fn smaller_levels(levels: [u8; 3]) -> impl Iterator<Item = [u8; 3]> {
+    (0..3).flat_map(move |pin| {
+        smaller_bytes(levels[pin]).map(move |level| {
+            let mut levels = levels;
+            levels[pin] = level;
+            levels
+        })
+    })
+}
+
 /// The shortest session that still differs: shortened over its lines, then over
 /// their numbers and bytes.
 pub fn session(input: &[u8], differs: impl Fn(&[u8]) -> bool) -> Vec<u8> {

@@ -3,10 +3,11 @@
 
 mod wrong_boards;
 
-use model::board::lines::{difference, shortest, text, Bench, Line, Make, Side};
+use model::board::lines::{Bench, Line, Make, Side};
 use model::board::reach::Reach;
 use model::board::{Board, Call};
 use model::chip::set_up;
+use model::driver::{difference, shortest, text};
 use model::generate::boards::{run, RUNS};
 
 fn output(make: Make, lines: &[Line]) -> String {

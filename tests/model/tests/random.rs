@@ -1,8 +1,9 @@
 //! The random tests themselves: wrong benches and wrong drivers are found within
 //! the fixed seeds, and what is shown of them is short.
 
-use model::calls::{difference, numbers, shortest, Call, Lent, Line};
+use model::calls::{numbers, Call, Lent, Line};
 use model::chip::{Chip, View};
+use model::driver::{difference, shortest, text};
 use model::generate::calls::{run, RUNS};
 use model::generate::{session, Kind, KINDS, SESSIONS};
 use model::program::Program;
@@ -361,7 +362,7 @@ fn a_peek_that_reads_is_found() {
     };
     let found = WrongDriver { after, ..RIGHT }.found();
     // Reset, a change of a pin, and two looks.
-    assert_eq!(found.len(), 4, "{}", model::calls::text(&found));
+    assert_eq!(found.len(), 4, "{}", text(&found));
 }
 
 #[test]
@@ -375,7 +376,7 @@ fn a_refused_tick_that_transmits_is_found() {
     assert!(found.contains(&Line::Call(Call::Tick(2))));
     // Reset, set-up, a character, the refused tick, transmit ticks up to a level
     // that is not the next one's.
-    assert!(found.len() <= 12, "{}", model::calls::text(&found));
+    assert!(found.len() <= 12, "{}", text(&found));
 }
 
 #[test]
@@ -386,7 +387,7 @@ fn a_tick_that_hears_twice_is_found() {
         }
     };
     let found = WrongDriver { before, ..RIGHT }.found();
-    assert!(found.len() <= 22, "{}", model::calls::text(&found));
+    assert!(found.len() <= 22, "{}", text(&found));
 }
 
 #[test]
@@ -410,7 +411,7 @@ fn a_driver_that_never_overruns_is_found() {
     };
     let found = WrongDriver { before, ..RIGHT }.found();
     // Reset, set-up, mark, two frames of six bits with a factor of 1, status.
-    assert!(found.len() <= 22, "{}", model::calls::text(&found));
+    assert!(found.len() <= 22, "{}", text(&found));
 }
 
 // The outside program.

@@ -3,9 +3,10 @@
 //! is called and with how many channels, and set and show boards and devices.
 
 use super::{Answer, Board, Call, CHANNELS};
-use crate::calls::{hexadecimal, numbers, Difference, Lent, DEVICE_BYTES};
+use crate::calls::{hexadecimal, numbers, Lent, DEVICE_BYTES};
 use crate::chip::Chip;
-use crate::shorten::{shorten, smaller};
+use crate::driver::Entry;
+use crate::shorten::{smaller_bytes, smaller_levels};
 use std::fmt;
 
 /// The devices of a room: one more than a board has channels.
@@ -137,79 +138,52 @@ impl Bench {
     }
 }
 
-/// The driver's input for `lines`.
-pub fn text(lines: &[Line]) -> String {
-    lines.iter().map(|line| format!("{line}\n")).collect()
-}
+impl Entry for Line {
+    type Model = Bench;
 
-/// The first difference between the model and the driver's whole output for
-/// `lines`.
-pub fn difference(lines: &[Line], output: &str) -> Option<Difference> {
-    const NOTHING: &str = "no line";
-    let mut bench = Bench::new(Side::call);
-    let mut answers = output.split_terminator('\n');
-    for (line, asked) in lines.iter().enumerate() {
-        let model = bench.answer(asked);
-        let driver = answers.next().unwrap_or(NOTHING);
-        if model != driver {
-            return Some(Difference {
-                line,
-                model,
-                driver: driver.to_string(),
-            });
+    fn start() -> Bench {
+        Bench::new(Side::call)
+    }
+
+    fn answer(&self, bench: &mut Bench) -> String {
+        bench.answer(self)
+    }
+
+    fn may_begin(&self) -> bool {
+        true
+    }
+
+    fn is_call(&self) -> bool {
+        matches!(self, Line::Call(_))
+    }
+
+    fn simpler(&self) -> Vec<Line> {
+        match *self {
+            Line::Call(call) => simpler_calls(call).into_iter().map(Line::Call).collect(),
+            Line::Set(board) => simpler_boards(board),
+            _ => Vec::new(),
         }
     }
-    answers.next().map(|further| Difference {
-        line: lines.len(),
-        model: NOTHING.to_string(),
-        driver: further.to_string(),
-    })
-}
-
-/// The shortest run found that still differs.
-pub fn shortest(lines: &[Line], differs: impl Fn(&[Line]) -> bool) -> Vec<Line> {
-    shorten(lines.to_vec(), simpler_lines, differs)
-}
-
-/// `line` with one number smaller.
-fn simpler_lines(line: &Line) -> Vec<Line> {
-    let calls = match *line {
-        Line::Call(call) => simpler_calls(call),
-        Line::Set(board) => return simpler_boards(board),
-        _ => return Vec::new(),
-    };
-    calls.into_iter().map(Line::Call).collect()
-}
-
-fn less(number: u8) -> impl Iterator<Item = u8> {
-    let all = smaller(number.into());
-    all.into_iter().map(|number| number as u8)
 }
 
 fn simpler_calls(call: Call) -> Vec<Call> {
     match call {
-        Call::In(port) => less(port).map(Call::In).collect(),
-        Call::Transmit(channel) => less(channel).map(Call::Transmit).collect(),
-        Call::Outputs(channel) => less(channel).map(Call::Outputs).collect(),
+        Call::In(port) => smaller_bytes(port).map(Call::In).collect(),
+        Call::Transmit(channel) => smaller_bytes(channel).map(Call::Transmit).collect(),
+        Call::Outputs(channel) => smaller_bytes(channel).map(Call::Outputs).collect(),
         Call::Out(port, value) => {
-            let ports = less(port).map(|port| Call::Out(port, value));
-            let values = less(value).map(|value| Call::Out(port, value));
+            let ports = smaller_bytes(port).map(|port| Call::Out(port, value));
+            let values = smaller_bytes(value).map(|value| Call::Out(port, value));
             ports.chain(values).collect()
         }
         Call::Receive(channel, level) => {
-            let channels = less(channel).map(|channel| Call::Receive(channel, level));
-            let levels = less(level).map(|level| Call::Receive(channel, level));
+            let channels = smaller_bytes(channel).map(|channel| Call::Receive(channel, level));
+            let levels = smaller_bytes(level).map(|level| Call::Receive(channel, level));
             channels.chain(levels).collect()
         }
         Call::Pins(channel, levels) => {
-            let channels = less(channel).map(|channel| Call::Pins(channel, levels));
-            let levels = (0..3).flat_map(|pin| {
-                less(levels[pin]).map(move |level| {
-                    let mut levels = levels;
-                    levels[pin] = level;
-                    Call::Pins(channel, levels)
-                })
-            });
+            let channels = smaller_bytes(channel).map(|channel| Call::Pins(channel, levels));
+            let levels = smaller_levels(levels).map(|levels| Call::Pins(channel, levels));
             channels.chain(levels).collect()
         }
         Call::Reset | Call::Interrupts => Vec::new(),
@@ -217,13 +191,13 @@ fn simpler_calls(call: Call) -> Vec<Call> {
 }
 
 fn simpler_boards(board: Board) -> Vec<Line> {
-    let numbers = less(board.number).map(|number| Board { number, ..board });
-    let selects = less(board.select).map(|select| Board { select, ..board });
-    let transmits = less(board.transmit_mask).map(|transmit_mask| Board {
+    let numbers = smaller_bytes(board.number).map(|number| Board { number, ..board });
+    let selects = smaller_bytes(board.select).map(|select| Board { select, ..board });
+    let transmits = smaller_bytes(board.transmit_mask).map(|transmit_mask| Board {
         transmit_mask,
         ..board
     });
-    let receives = less(board.receive_mask).map(|receive_mask| Board {
+    let receives = smaller_bytes(board.receive_mask).map(|receive_mask| Board {
         receive_mask,
         ..board
     });

@@ -6,6 +6,7 @@ use super::{pending, Board, Call, CHANNELS};
 use super::{NOT_SELECTED, NO_SUCH_PORT, RECEIVE_READY, TRANSMIT_READY, WRONG_ROOM};
 use crate::calls::Lent;
 use crate::chip::Chip;
+use crate::reach::conclude;
 use crate::Format;
 use std::process::ExitCode;
 
@@ -160,15 +161,9 @@ impl Reach {
         (text, whole)
     }
 
-    /// Prints the counts. A run that did not reach all has failed.
     pub fn conclude(&self) -> ExitCode {
-        let (report, whole) = self.report();
-        print!("{report}");
-        if whole {
-            return ExitCode::SUCCESS;
-        }
-        println!("what is MISSING was reached fewer than {ENOUGH} times");
-        ExitCode::FAILURE
+        let missing = format!("reached fewer than {ENOUGH} times");
+        conclude(self.report(), &missing)
     }
 
     /// A run of lines, made on the model.
