@@ -182,11 +182,13 @@ fn on_channel(room: &mut [Lent], channel: u8, call: ChipCall) -> Result<Vec<u8>,
     }
 }
 
-/// The channels whose status has a bit, channel k as bit k. A channel out of range
-/// is as one just reset.
-pub fn pending(room: &[Lent], bit: u8) -> u8 {
+/// The channels of which a fact holds, channel k as bit k.
+pub fn channels_that(room: &[Lent], fact: impl Fn(&Lent) -> bool) -> u8 {
     let channels = room.iter().rev();
-    channels.fold(0, |sum, lent| {
-        2 * sum + u8::from(lent.view().status & bit != 0)
-    })
+    channels.fold(0, |sum, lent| 2 * sum + u8::from(fact(lent)))
+}
+
+/// The channels whose status has a bit. A channel out of range is as one just reset.
+pub fn pending(room: &[Lent], bit: u8) -> u8 {
+    channels_that(room, |lent| lent.view().status & bit != 0)
 }

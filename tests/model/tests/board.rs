@@ -142,6 +142,35 @@ fn a_1_in_a_mask_enables() {
     }
 }
 
+/// No jumper is set, those of users 6 and 7 least of all.
+#[test]
+fn an_empty_sender_and_a_change_are_no_interrupt() {
+    for user in 0..8 {
+        let mut rig = Rig::numbered(0);
+        (rig.board.transmit_mask, rig.board.receive_mask) = (255, 255);
+        rig.done(Call::Out(7, user));
+        for setting in [Call::Out(2, 77), Call::Out(2, 0), Call::Out(3, 1)] {
+            rig.done(setting);
+        }
+        rig.done(Call::Pins(user, [0, 0, 0]));
+        rig.done(Call::Out(0, 65));
+        // The change-mark, with a character waiting: status bit 2 alone.
+        assert_eq!(rig.room[usize::from(user)].view().status & 7, 4);
+        assert_eq!(rig.done(Call::In(4)), [0], "{user}");
+        assert_eq!(rig.done(Call::In(5)), [0], "{user}");
+        assert_eq!(rig.done(Call::Interrupts), [0, 0], "{user}");
+        // The empty-mark, behind a frame of ten ticks.
+        rig.done(Call::In(1));
+        for _ in 0..10 {
+            rig.done(Call::Transmit(user));
+        }
+        assert_eq!(rig.room[usize::from(user)].view().status & 7, 5);
+        assert_eq!(rig.done(Call::In(4)), [1 << user]);
+        assert_eq!(rig.done(Call::In(5)), [0], "{user}");
+        assert_eq!(rig.done(Call::Interrupts), [0, 1 << user]);
+    }
+}
+
 #[test]
 fn a_board_answers_its_own_users() {
     // Users 0 to 7 are of board 0, users 8 to 15 of board 1.

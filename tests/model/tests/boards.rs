@@ -59,7 +59,7 @@ fn a_difference_is_shortened_to_its_calls() {
     let lines = shown("a written select is stored whole");
     assert_eq!(text(&lines), "out 7 32\nfields\n");
     let lines = shown("a reset leaves the transmit mask");
-    assert_eq!(text(&lines), "board 0 0 1 0\nreset\nfields\n");
+    assert_eq!(text(&lines), "out 4 1\nreset\nfields\n");
     let lines = shown("a board 4 is selected by 0");
     assert_eq!(lines.len(), 2);
     assert_eq!(lines[0], Line::Set(Board::numbered(4)));
@@ -119,6 +119,149 @@ fn refusals_that_stand_together_are_counted() {
     }
     let name = "out refused with 9";
     assert_eq!(reached(&lines, name), format!("{name}: 1 MISSING"));
+}
+
+/// The lines of a board that is not selected.
+fn unselected(calls: &[Line]) -> Vec<Line> {
+    let other = Board {
+        select: 8,
+        transmit_mask: 5,
+        ..Board::numbered(0)
+    };
+    [&[Line::Set(other)], calls].concat()
+}
+
+#[test]
+fn a_board_that_a_refused_call_would_have_changed_is_counted() {
+    let name = "board that a write of port 4 would have changed, shown after refusal 9";
+    let write = |value| Line::Call(Call::Out(4, value));
+    let counted =
+        |calls: &[Line]| reached(&unselected(calls), name) == format!("{name}: 1 MISSING");
+    assert!(counted(&[write(6), Line::Bytes(0), Line::Fields]));
+    // The mask that it has, a board set since, and another board.
+    assert!(!counted(&[write(5), Line::Fields]));
+    assert!(!counted(&[
+        write(6),
+        Line::Set(Board::numbered(0)),
+        Line::Fields
+    ]));
+    assert!(!counted(&[write(6), Line::Use(1), Line::Fields]));
+}
+
+#[test]
+fn a_channel_that_a_refused_call_would_have_changed_is_counted() {
+    let name = |range: &str, port: u8| {
+        let call = format!("a read of port {port} would have changed, shown after refusal 9");
+        format!("channel {range} that {call}")
+    };
+    let mut bytes = set_up(77, 0, 5).bytes();
+    // A character is unread; then the mode pointer is none.
+    bytes[36] = 1;
+    let whole = Line::Device(0, bytes);
+    bytes[7] = 2;
+    let spoilt = Line::Device(0, bytes);
+    let empty = Line::Device(0, set_up(77, 0, 5).bytes());
+    for (device, place, port, range, count) in [
+        (whole, 0, 0, "in range", 1),
+        (whole, 0, 2, "in range", 1),
+        (whole, 1, 0, "in range", 0),
+        (empty, 0, 0, "in range", 0),
+        (whole, 0, 0, "out of range", 0),
+        (spoilt, 0, 0, "out of range", 1),
+        (spoilt, 0, 0, "in range", 0),
+    ] {
+        let lines = unselected(&[device, Line::Call(Call::In(port)), Line::Bytes(place)]);
+        let name = name(range, port);
+        assert_eq!(reached(&lines, &name), format!("{name}: {count} MISSING"));
+    }
+}
+
+#[test]
+fn a_value_that_a_refused_call_keeps_back_is_counted() {
+    for (port, count) in [(3, 1), (0, 0)] {
+        let command = Line::Device(0, set_up(77, 0, 5).bytes());
+        let lines = unselected(&[command, Line::Call(Call::In(port))]);
+        let name = format!("a read of port {port} that would have given another value than 0");
+        let name = format!("{name}, refused with 9");
+        assert_eq!(reached(&lines, &name), format!("{name}: {count} MISSING"));
+    }
+}
+
+#[test]
+fn a_select_with_bits_that_do_not_count_is_counted_where_it_is_shown() {
+    let high = Board {
+        select: 40,
+        ..Board::numbered(0)
+    };
+    let lines = |call| [Line::Set(high), Line::Call(call), Line::Fields];
+    let name = |call: &str| format!("stored select with bits 7-5 shown after {call}");
+    for (call, name, count) in [
+        (Call::Transmit(0), name("transmit done"), 1),
+        (Call::Transmit(8), name("transmit refused"), 1),
+        (Call::Transmit(8), name("transmit done"), 0),
+        (Call::Out(7, 40), name("out done"), 0),
+    ] {
+        assert_eq!(
+            reached(&lines(call), &name),
+            format!("{name}: {count} MISSING")
+        );
+    }
+}
+
+/// Channels 3 and 5 ready to send, channel 6 with a change of its pins and channel 7
+/// out of range, ready to send by its own bits; channels 5 and 7 enabled.
+fn polled() -> Vec<Line> {
+    let (ready, changed) = (set_up(77, 0, 1), set_up(77, 0, 0));
+    assert_eq!((ready.peek() & 7, changed.peek() & 7), (5, 4));
+    let mut spoilt = ready.bytes();
+    spoilt[7] = 2;
+    let enabled = Board {
+        transmit_mask: 0b1010_0000,
+        ..Board::numbered(0)
+    };
+    vec![
+        Line::Device(3, ready.bytes()),
+        Line::Device(5, ready.bytes()),
+        Line::Device(6, changed.bytes()),
+        Line::Device(7, spoilt),
+        Line::Set(enabled),
+        Line::Call(Call::In(4)),
+        Line::Call(Call::Interrupts),
+    ]
+}
+
+#[test]
+fn interrupts_are_counted_channel_by_channel() {
+    let out_of_range = "for bytes out of range that have the bit";
+    for (name, counts) in [
+        ("port 4 read with a 1", "0 0 0 1 0 1 0 0"),
+        ("port 4 read with a 0 beside a 1", "1 1 1 0 1 0 1 1"),
+        ("port 4 read with a masked 1", "0 0 0 1 0 0 0 0"),
+        ("port 4 read with a 0 at status bit 2", "0 0 0 0 0 0 1 0"),
+        (
+            &format!("port 4 read with a 0 {out_of_range}"),
+            "0 0 0 0 0 0 0 1",
+        ),
+        ("port 5 read with a 1", "0 0 0 0 0 0 0 0"),
+        ("transmit line asserted", "0 0 0 0 0 1 0 0"),
+        (
+            "transmit line not asserted beside one that is",
+            "1 1 1 1 1 0 1 1",
+        ),
+        ("transmit line pending and masked", "0 0 0 1 0 0 0 0"),
+        ("transmit line enabled and not pending", "0 0 0 0 0 0 0 1"),
+        (
+            &format!("transmit line enabled and not pending {out_of_range}"),
+            "0 0 0 0 0 0 0 1",
+        ),
+        ("receive line pending and masked", "0 0 0 0 0 0 0 0"),
+    ] {
+        let name = format!("{name}, by channel");
+        assert_eq!(
+            reached(&polled(), &name),
+            format!("{name}: {counts} MISSING")
+        );
+    }
 }
 
 #[test]

@@ -1,17 +1,21 @@
 //! What the random runs of boards reached, counted by name on the model. A run in
 //! which one of its counts stays small has not tested what it is for.
 
+mod counts;
+mod interrupts;
+mod refused;
+
+pub use interrupts::own_bits;
+pub use refused::{goes_nowhere, granted, needs_a_select};
+
 use super::lines::{Bench, Line, Side};
-use super::{pending, Board, Call, CHANNELS};
-use super::{NOT_SELECTED, NO_SUCH_PORT, RECEIVE_READY, TRANSMIT_READY, WRONG_ROOM};
+use super::{Board, Call, NOT_SELECTED, NO_SUCH_PORT, WRONG_ROOM};
 use crate::calls::Lent;
 use crate::chip::Chip;
 use crate::reach::conclude;
 use crate::Format;
+use counts::{Counts, ENOUGH};
 use std::process::ExitCode;
-
-/// The least count that is enough.
-const ENOUGH: u64 = 40;
 
 /// The calls by the refusals that each can have.
 const REFUSALS: [(&str, &[u8]); 8] = [
@@ -43,7 +47,7 @@ const BOTH: [(u8, u8); 10] = [
 const ON_CHANNELS: [&str; 6] = ["in", "out", "pins", "transmit", "receive", "outputs"];
 
 /// Further names.
-const OF_BOARDS: [&str; 31] = [
+const OF_BOARDS: [&str; 20] = [
     "port 6 read",
     "port 6 written",
     "port 7 read",
@@ -59,17 +63,6 @@ const OF_BOARDS: [&str; 31] = [
     "one of the two boards selected",
     "both boards selected",
     "no board selected",
-    "port 4 read with a masked bit",
-    "port 5 read with a masked bit",
-    "port 4 read with a channel out of range that has the bit",
-    "port 5 read with a channel out of range that has the bit",
-    "interrupts with a channel out of range that has an enabled bit",
-    "transmit interrupt asserted",
-    "transmit interrupt pending and masked",
-    "transmit interrupt enabled and not pending",
-    "receive interrupt asserted",
-    "receive interrupt pending and masked",
-    "receive interrupt enabled and not pending",
     "reset with both masks set",
     "reset with a select",
     "reset of a board that is not selected",
@@ -85,80 +78,52 @@ const INSIDE: [&str; 4] = [
     "call on another channel",
 ];
 
-/// Where a channel is named, there is a count for each.
-struct Count {
-    name: String,
-    counts: Vec<u64>,
-}
-
 /// The calls so far: the board, and the first value answered.
 type Ticks = Vec<(usize, Call, u8)>;
 
+/// A call of the run, for what is shown behind it.
+struct Made {
+    used: usize,
+    before: Side,
+    call: Call,
+    refusal: u8,
+}
+
 pub struct Reach {
-    counts: Vec<Count>,
+    counts: Counts,
 }
 
 impl Reach {
     pub fn of_boards() -> Reach {
-        let mut once: Vec<String> = OF_BOARDS.map(String::from).to_vec();
-        let mut each = Vec::new();
+        let mut counts = Counts::default();
+        counts.name(OF_BOARDS);
         for (call, refusals) in REFUSALS {
-            once.push(format!("{call} done"));
-            let refused = refusals.iter().map(|number| refused(call, *number));
-            once.extend(refused);
-            once.push(format!("board shown after {call}"));
+            counts.name([format!("{call} done"), format!("board shown after {call}")]);
+            counts.name(refusals.iter().map(|number| refused_with(call, *number)));
+            counts.name([high_select(call, WRONG_ROOM)]);
+            // A reset that is done leaves no such select.
+            if call != "reset" {
+                counts.name([high_select(call, 0)]);
+            }
         }
-        once.extend(BOTH.map(|(first, second)| format!("{first} before {second}")));
-        once.extend((0..6).map(|port| format!("port {port} read")));
-        once.extend([0, 1, 2, 3, 4, 5, 7].map(|port| format!("port {port} written")));
-        once.extend((0..10).map(|count| format!("room of {count}")));
-        once.extend(INSIDE.map(|name| format!("{name} inside a character")));
-        once.extend([2, 3, 4, 5, 8, 9, 10].map(left_by));
+        counts.name(BOTH.map(|(first, second)| format!("{first} before {second}")));
+        counts.name((0..6).map(|port| format!("port {port} read")));
+        counts.name([0, 1, 2, 3, 4, 5, 7].map(|port| format!("port {port} written")));
+        counts.name((0..10).map(|count| format!("room of {count}")));
+        counts.name(INSIDE.map(|name| format!("{name} inside a character")));
         for call in ON_CHANNELS {
-            each.push(format!("{call} of channel"));
-            once.push(format!("the channel shown after {call}"));
-            once.push(format!("another channel shown after {call}"));
+            counts.name_channels([format!("{call} of channel")]);
+            counts.name(["the", "another"].map(|which| shown_after(which, call)));
         }
-        each.push("reset of channel".to_string());
-        each.push("arrival on channel".to_string());
-        let counted = |name: String, of: usize| Count {
-            name,
-            counts: vec![0; of],
-        };
-        let once = once.into_iter().map(|name| counted(name, 1));
-        let each = each.into_iter().map(|name| counted(name, CHANNELS));
-        Reach {
-            counts: once.chain(each).collect(),
-        }
-    }
-
-    fn count(&mut self, name: &str) {
-        self.count_at(name, 0);
-    }
-
-    fn count_at(&mut self, name: &str, place: usize) {
-        let counted = self.counts.iter_mut().find(|count| count.name == name);
-        counted.expect(name).counts[place] += 1;
-    }
-
-    fn count_if(&mut self, fact: bool, name: &str) {
-        if fact {
-            self.count(name);
-        }
+        counts.name_channels(["reset of channel", "arrival on channel"]);
+        interrupts::name(&mut counts);
+        refused::name(&mut counts);
+        Reach { counts }
     }
 
     /// A line for each name, and whether all was reached often enough.
     pub fn report(&self) -> (String, bool) {
-        let mut text = String::new();
-        let mut whole = true;
-        for Count { name, counts } in &self.counts {
-            let few = counts.iter().any(|&count| count < ENOUGH);
-            let words: Vec<String> = counts.iter().map(u64::to_string).collect();
-            let note = if few { " MISSING" } else { "" };
-            text += &format!("{name}: {}{note}\n", words.join(" "));
-            whole &= !few;
-        }
-        (text, whole)
+        self.counts.report()
     }
 
     pub fn conclude(&self) -> ExitCode {
@@ -166,51 +131,85 @@ impl Reach {
         conclude(self.report(), &missing)
     }
 
+    fn count(&mut self, name: &str) {
+        self.counts.count(name);
+    }
+
+    fn count_if(&mut self, fact: bool, name: &str) {
+        self.counts.count_if(fact, name);
+    }
+
     /// A run of lines, made on the model.
     pub fn run(&mut self, lines: &[Line]) {
         let mut bench = Bench::new(Side::call);
-        let mut last: Option<(usize, Call, u8)> = None;
         let mut ticks = Ticks::new();
+        let mut last: Option<Made> = None;
         for line in lines {
             if let Line::Call(call) = line {
-                let before = bench.clone();
-                let (refusal, values) = bench.call(call);
-                self.called(&before, call, refusal);
-                self.inside(&before, call, refusal);
-                ticks.push((bench.used, *call, values[0]));
-                if refusal == 0 {
-                    self.arrived(&before, &ticks);
-                }
-                last = Some((bench.used, *call, refusal));
+                last = Some(self.make(&mut bench, *call, &mut ticks));
                 continue;
             }
-            if let Some((_, call, refusal)) = last.filter(|(used, ..)| *used == bench.used) {
-                self.shown(bench.side(), line, &call, refusal);
+            match (line, &last) {
+                (Line::Fields, Some(made)) if made.used == bench.used => {
+                    self.board_shown(made, &bench.side().board);
+                }
+                (Line::Bytes(place), Some(made)) if made.used == bench.used => {
+                    self.device_shown(made, *place);
+                }
+                // What is shown from now on is not what the call left.
+                (Line::Set(_) | Line::Device(..), _) => last = None,
+                _ => {}
             }
             bench.answer(line);
         }
     }
 
-    /// What is shown behind a call of the same board.
-    fn shown(&mut self, side: &Side, line: &Line, call: &Call, refusal: u8) {
-        let Line::Bytes(place) = *line else {
-            let fields = matches!(line, Line::Fields);
-            return self.count_if(fields, &format!("board shown after {}", call.name()));
-        };
-        if refusal != 0 {
-            let left = matches!(side.room[place], Lent::OutOfRange(_));
-            return self.count_if(left, &left_by(refusal));
+    fn make(&mut self, bench: &mut Bench, call: Call, ticks: &mut Ticks) -> Made {
+        let before = bench.clone();
+        let (refusal, values) = bench.call(&call);
+        self.called(&before, &call, refusal);
+        self.inside(&before, &call, refusal);
+        ticks.push((bench.used, call, values[0]));
+        if refusal == 0 {
+            self.arrived(&before, ticks);
         }
-        if let Some(channel) = channel(&side.board, call) {
+        let used = bench.used;
+        let [first, second] = before.sides;
+        let before = if used == 0 { first } else { second };
+        Made {
+            used,
+            before,
+            call,
+            refusal,
+        }
+    }
+
+    /// The board is shown behind a call of it.
+    fn board_shown(&mut self, made: &Made, board: &Board) {
+        let call = made.call.name();
+        self.count(&format!("board shown after {call}"));
+        self.count_if(board.select > 31, &high_select(call, made.refusal));
+        if made.refusal != 0 {
+            refused::board_shown(&mut self.counts, &made.before, &made.call, made.refusal);
+        }
+    }
+
+    /// A device is shown behind a call of its board.
+    fn device_shown(&mut self, made: &Made, place: usize) {
+        let (before, call) = (&made.before, &made.call);
+        if made.refusal != 0 {
+            return refused::device_shown(&mut self.counts, before, place, call, made.refusal);
+        }
+        if let Some(channel) = channel(&before.board, call) {
             let which = if channel == place { "the" } else { "another" };
-            self.count(&format!("{which} channel shown after {}", call.name()));
+            self.count(&shown_after(which, call.name()));
         }
     }
 
     fn called(&mut self, before: &Bench, call: &Call, refusal: u8) {
         let side = before.side();
         self.count(&format!("room of {}", side.count));
-        let all = refusals(side, call);
+        let all = refused::refusals(side, call);
         for second in all.iter().skip(1) {
             self.count(&format!("{} before {second}", all[0]));
         }
@@ -220,15 +219,17 @@ impl Reach {
             _ => {}
         }
         if refusal != 0 {
-            return self.count(&refused(call.name(), refusal));
+            refused::called(&mut self.counts, side, call, refusal);
+            return self.count(&refused_with(call.name(), refusal));
         }
         self.count(&format!("{} done", call.name()));
         if let Some(channel) = channel(&side.board, call) {
-            self.count_at(&format!("{} of channel", call.name()), channel);
+            let name = format!("{} of channel", call.name());
+            self.counts.count_channel(&name, channel);
         }
         match call {
             Call::Reset => self.reset(side),
-            Call::Interrupts => self.interrupts(side),
+            Call::Interrupts => interrupts::looked_at(&mut self.counts, side),
             _ => {}
         }
     }
@@ -256,8 +257,9 @@ impl Reach {
             self.selected(before);
         }
         match (port, value) {
-            (4, None) if refusal == 0 => self.polled(before.side(), 4),
-            (5, None) if refusal == 0 => self.polled(before.side(), 5),
+            (4 | 5, None) if refusal == 0 => {
+                interrupts::polled(&mut self.counts, before.side(), port);
+            }
             (7, Some(value)) => {
                 self.count_if(value > 31, "select written with bits 7-5");
                 self.count_if(board.number > 3, "select written to a board above 3");
@@ -289,34 +291,6 @@ impl Reach {
         });
     }
 
-    fn polled(&mut self, side: &Side, port: u8) {
-        let (bit, mask) = match port {
-            4 => (TRANSMIT_READY, side.board.transmit_mask),
-            _ => (RECEIVE_READY, side.board.receive_mask),
-        };
-        let masked = pending(side.channels(), bit) & !mask != 0;
-        self.count_if(masked, &format!("port {port} read with a masked bit"));
-        let name = format!("port {port} read with a channel out of range that has the bit");
-        self.count_if(own_bits(side, bit) != 0, &name);
-    }
-
-    fn interrupts(&mut self, side: &Side) {
-        let board = &side.board;
-        let kinds = [
-            ("transmit", TRANSMIT_READY, board.transmit_mask),
-            ("receive", RECEIVE_READY, board.receive_mask),
-        ];
-        for (kind, bit, mask) in kinds {
-            let pending = pending(side.channels(), bit);
-            let named = |what: &str| format!("{kind} interrupt {what}");
-            self.count_if(pending & mask != 0, &named("asserted"));
-            self.count_if(pending & !mask != 0, &named("pending and masked"));
-            self.count_if(!pending & mask != 0, &named("enabled and not pending"));
-            let name = "interrupts with a channel out of range that has an enabled bit";
-            self.count_if(own_bits(side, bit) & mask != 0, name);
-        }
-    }
-
     fn reset(&mut self, side: &Side) {
         let board = &side.board;
         let masks = board.transmit_mask != 0 && board.receive_mask != 0;
@@ -329,7 +303,7 @@ impl Reach {
         let fresh = Lent::InRange(Chip::just_reset());
         for (channel, lent) in side.channels().iter().enumerate() {
             if *lent != fresh {
-                self.count_at("reset of channel", channel);
+                self.counts.count_channel("reset of channel", channel);
             }
         }
     }
@@ -371,7 +345,8 @@ impl Reach {
         if !was.listening || !was.hearing.is_some_and(last) {
             return;
         }
-        self.count_at("arrival on channel", usize::from(channel));
+        self.counts
+            .count_channel("arrival on channel", usize::from(channel));
         if let Some(from) = sender(ticks, (board, channel), level) {
             let boards = if from == board {
                 "one board"
@@ -395,12 +370,18 @@ fn sender(ticks: &Ticks, end: (usize, u8), level: u8) -> Option<usize> {
     (sent == level).then_some(board)
 }
 
-fn refused(call: &str, refusal: u8) -> String {
+fn refused_with(call: &str, refusal: u8) -> String {
     format!("{call} refused with {refusal}")
 }
 
-fn left_by(refusal: u8) -> String {
-    format!("channel out of range shown after refusal {refusal}")
+fn shown_after(which: &str, call: &str) -> String {
+    format!("{which} channel shown after {call}")
+}
+
+/// Only a write of port 7 and a reset that are done may change a stored select.
+fn high_select(call: &str, refusal: u8) -> String {
+    let done = if refusal == 0 { "done" } else { "refused" };
+    format!("stored select with bits 7-5 shown after {call} {done}")
 }
 
 /// The channel that a call is about: named by it, or selected for ports 0 to 3.
@@ -412,51 +393,4 @@ fn channel(board: &Board, call: &Call) -> Option<usize> {
         Call::In(_) | Call::Out(..) | Call::Reset | Call::Interrupts => return None,
     };
     Some(usize::from(channel))
-}
-
-/// Every refusal that stands for a call, whether or not another comes before it.
-fn refusals(side: &Side, call: &Call) -> Vec<u8> {
-    let mut all = Vec::new();
-    if side.count != CHANNELS {
-        all.push(WRONG_ROOM);
-    }
-    let outside = match *call {
-        Call::In(port) => port > 5,
-        Call::Out(port, _) => port == 6 || port > 7,
-        _ => channel(&side.board, call).is_some_and(|channel| channel >= CHANNELS),
-    };
-    if outside {
-        all.push(NO_SUCH_PORT);
-    }
-    if let Call::In(0..=5) | Call::Out(0..=5, _) = call {
-        if !side.board.is_selected() {
-            all.push(NOT_SELECTED);
-        }
-    }
-    let mut chip = Chip::just_reset();
-    if let Some(Lent::InRange(named)) = channel(&side.board, call).and_then(|k| side.room.get(k)) {
-        chip = named.clone();
-    }
-    let own = match *call {
-        Call::Out(port @ 0..=3, value) => chip.write(port, value),
-        Call::Pins(_, [dsr, dcd, cts]) => chip.set_pins(dsr, dcd, cts),
-        Call::Receive(_, level) => chip.receive(level),
-        _ => 0,
-    };
-    if own != 0 {
-        all.push(own);
-    }
-    all
-}
-
-/// The channels out of range that would have an interrupt if their own bytes were
-/// looked at.
-fn own_bits(side: &Side, bit: u8) -> u8 {
-    let own = |lent: &Lent| match lent {
-        Lent::InRange(_) => false,
-        Lent::OutOfRange(bytes) if bit == TRANSMIT_READY => bytes[3] & 1 != 0 && bytes[21] == 0,
-        Lent::OutOfRange(bytes) => bytes[36] == 1,
-    };
-    let channels = side.channels().iter().rev();
-    channels.fold(0, |sum, lent| 2 * sum + u8::from(own(lent)))
 }

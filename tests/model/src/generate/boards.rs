@@ -1,8 +1,8 @@
 //! Random runs for the board's C driver, on two boards: hostile numbers in every
-//! call and field, channels out of range under each call, a cabinet in which both
-//! boards take every select, and two channels joined by a line while others are
-//! called between its ticks. What a call may have changed, and what it must have
-//! left, is looked at behind it.
+//! call and field, each call done and refused in every way on a channel out of range
+//! and on one in range, a cabinet in which both boards take every select, and two
+//! channels joined by a line while others are called between its ticks. What a call
+//! may have changed, and what it must have left, is looked at behind it.
 
 use super::any_mode;
 use super::ranges::{device, spoilt};
@@ -35,6 +35,9 @@ const NUMBERS: [[u8; 2]; 10] = [
 /// Bits 7-5 of a select.
 const NOT_USED: [u8; 5] = [0, 32, 64, 128, 224];
 
+/// How the bytes of a device are drawn.
+type Device = fn(&mut Draws) -> [u8; DEVICE_BYTES];
+
 /// A channel of one of the boards.
 #[derive(Clone, Copy, PartialEq, Eq)]
 struct End {
@@ -58,10 +61,11 @@ pub fn run(index: u32) -> Vec<Line> {
     };
     let mut episode = index;
     while run.lines.len() < LINES {
-        match episode % 4 {
-            0 => run.garbage(),
+        match episode % 5 {
+            0 => run.each_call(out_of_range),
             1 => run.cabinet(),
             2 => run.joined(),
+            3 => run.each_call(device),
             _ => run.hostile(),
         }
         episode += 1;
@@ -186,58 +190,68 @@ impl Run<'_> {
         self.add(Line::Device(place, bytes));
     }
 
-    // Channels out of range.
+    // Refusals.
 
-    /// Each call with a channel out of range, and the bytes of that channel behind
-    /// it: done, refused by the channel, by the port, by another board's select,
-    /// and by the room.
-    fn garbage(&mut self) {
+    /// Each call on a channel that was set just before, and the bytes of that channel
+    /// behind it: done, refused by the channel, by the port, by another board's
+    /// select, and by the room.
+    fn each_call(&mut self, device: Device) {
         let end = self.any_end();
         self.set(0, 0, 0);
         self.set(1, 1, 0);
         let number = self.draws.below(4) as u8;
-        self.set(end.board, number, 8 * number + end.channel);
+        let user = 8 * number + end.channel;
+        let select = user + self.draws.of(&NOT_USED);
+        self.set(end.board, number, select);
         for call in self.calls(end) {
-            self.call_on_garbage(end, call);
+            self.call_on(end, device, call);
         }
-        let other = (number + 1) % 4 * 8 + end.channel + self.draws.of(&NOT_USED);
+        let other = (user + 8) % 32 + self.draws.of(&NOT_USED);
         self.set(end.board, number, other);
         for call in self.calls(end) {
             if let Call::In(_) | Call::Out(0..=6, _) = call {
-                self.call_on_garbage(end, call);
+                self.call_on(end, device, call);
             }
         }
-        for count in [0, 7, 9] {
-            self.count(end.board, count);
-            let calls = self.calls(end);
-            for _ in 0..8 {
-                let call = self.draws.of(&calls);
-                self.call_on_garbage(end, call);
-            }
-            self.call_on_garbage(end, Call::Reset);
-            self.count(end.board, CHANNELS);
+        let select = self.draws.of(&[select, other]);
+        self.set(end.board, number, select);
+        let count = self.draws.of(&[0, 1, 6, 7, 7, 9, 9]);
+        self.count(end.board, count);
+        for call in self.calls(end) {
+            self.call_on(end, device, call);
         }
-        self.call_on_garbage(end, Call::Reset);
+        self.call_on(end, device, Call::Out(7, !select));
+        self.call_on(end, device, Call::Reset);
+        self.count(end.board, CHANNELS);
+        self.call_on(end, device, Call::Reset);
     }
 
-    fn call_on_garbage(&mut self, end: End, call: Call) {
-        let bytes = out_of_range(self.draws);
+    fn call_on(&mut self, end: End, device: Device, call: Call) {
+        let bytes = device(self.draws);
         self.turn_to(end.board);
         self.add(Line::Device(end.channel.into(), bytes));
         self.make(end.board, call);
         self.add(Line::Bytes(end.channel.into()));
+        if let Call::Out(4.., _) | Call::Reset = call {
+            self.add(Line::Fields);
+        }
         self.look(call);
     }
 
-    /// Every call on a channel, done and refused; the select stays.
+    /// Every call on a channel, done and refused. The last one writes the select that
+    /// is stored.
     fn calls(&mut self, end: End) -> Vec<Call> {
         let select = self.bench.sides[end.board].board.select;
-        let any = self.draws.between(8, 255) as u8;
-        let high = self.draws.of(&[8, 9, any, any]);
+        let above = self.draws.between(8, 255) as u8;
+        // The first eight, the last eight, or any.
+        let port = self.draws.of(&[above % 8 + 8, above | 248, above, above]);
+        // As often as not it has the low bits of the channel.
+        let alike = above & !7 | end.channel;
+        let beyond = self.draws.of(&[8, above, alike, alike]);
         let (value, wrong) = (self.draws.byte(), self.draws.between(2, 255) as u8);
         let level = value % 2;
-        let mut calls: Vec<Call> = (0..=7).chain([high]).map(Call::In).collect();
-        for port in [0, 1, 4, 5, 6, high] {
+        let mut calls: Vec<Call> = (0..=7).chain([port]).map(Call::In).collect();
+        for port in [0, 1, 4, 5, 6, port] {
             calls.push(Call::Out(port, value));
         }
         calls.extend([
@@ -246,9 +260,8 @@ impl Run<'_> {
             Call::Out(2, value & !3),
             Call::Out(3, value & 63),
             Call::Out(3, value | self.draws.of(&[64, 128])),
-            Call::Out(7, select),
         ]);
-        for channel in [end.channel, high] {
+        for channel in [end.channel, beyond] {
             calls.extend([
                 Call::Pins(channel, [level, 0, 1]),
                 Call::Pins(channel, [level, wrong, 1]),
@@ -259,6 +272,7 @@ impl Run<'_> {
                 Call::Interrupts,
             ]);
         }
+        calls.push(Call::Out(7, select));
         calls
     }
 
