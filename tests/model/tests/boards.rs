@@ -43,7 +43,7 @@ fn answers_too_few_or_too_many_are_found() {
 
 #[test]
 fn each_wrong_board_is_found() {
-    for (name, make) in wrong_boards::ALL {
+    for (name, make) in wrong_boards::all() {
         let found = found(name, make);
         // At most a board, a channel that is set up, a character, and what shows it.
         assert!(found.len() <= 16, "{name}:\n{}", text(&found));
@@ -53,7 +53,8 @@ fn each_wrong_board_is_found() {
 #[test]
 fn a_difference_is_shortened_to_its_calls() {
     let shown = |name: &str| {
-        let wrong = wrong_boards::ALL.iter().find(|(known, _)| *known == name);
+        let all = wrong_boards::all();
+        let wrong = all.iter().find(|(known, _)| *known == name);
         found(name, wrong.expect("a wrong board").1)
     };
     let lines = shown("a written select is stored whole");
