@@ -61,6 +61,8 @@ fn a_difference_is_shortened_to_its_calls() {
     assert_eq!(text(&lines), "out 7 32\nfields\n");
     let lines = shown("a reset leaves the transmit mask");
     assert_eq!(text(&lines), "out 4 1\nreset\nfields\n");
+    let lines = shown("a mask refused with 9 is stored");
+    assert_eq!(text(&lines), "board 0 8 0 0\nout 4 1\nfields\n");
     let lines = shown("a board 4 is selected by 0");
     assert_eq!(lines.len(), 2);
     assert_eq!(lines[0], Line::Set(Board::numbered(4)));

@@ -20,6 +20,34 @@ pub const ALL: &[Wrong] = &[
         "interrupts are those of its own bits",
         interrupts_by_own_bits,
     ),
+    ("channel 6 has a jumper to port 4", jumper_to_port::<4, 6>),
+    ("channel 7 has a jumper to port 4", jumper_to_port::<4, 7>),
+    ("channel 6 has a jumper to port 5", jumper_to_port::<5, 6>),
+    ("channel 7 has a jumper to port 5", jumper_to_port::<5, 7>),
+    (
+        "channel 6 has a jumper to its transmit line",
+        jumper_to_line::<4, 6>,
+    ),
+    (
+        "channel 7 has a jumper to its transmit line",
+        jumper_to_line::<4, 7>,
+    ),
+    (
+        "channel 6 has a jumper to its receive line",
+        jumper_to_line::<5, 6>,
+    ),
+    (
+        "channel 7 has a jumper to its receive line",
+        jumper_to_line::<5, 7>,
+    ),
+    ("channel 0 is not in port 4", not_in_port::<4, 0>),
+    ("channel 7 is not in port 4", not_in_port::<4, 7>),
+    ("channel 0 is not in port 5", not_in_port::<5, 0>),
+    ("channel 7 is not in port 5", not_in_port::<5, 7>),
+    ("channel 0 has no transmit line", no_line::<4, 0>),
+    ("channel 7 has no transmit line", no_line::<4, 7>),
+    ("channel 0 has no receive line", no_line::<5, 0>),
+    ("channel 7 has no receive line", no_line::<5, 7>),
     ("the masks are swapped", masks_are_swapped),
     (
         "a mask is written while another board is selected",
@@ -110,6 +138,35 @@ fn polled_by_own_bits(side: &mut Side, call: &Call) -> Answer {
 
 fn interrupts_by_own_bits(side: &mut Side, call: &Call) -> Answer {
     lines_as(side, call, with_own_bits)
+}
+
+// Single channels, those of port 4 or those of port 5.
+
+/// With status bit 2 of a channel, which its jumper would add.
+fn jumpered(side: &Side, port: u8, channel: u8) -> u8 {
+    shown(side, port) | pending(side.channels(), 4) & 1 << channel
+}
+
+fn jumper_to_port<const PORT: u8, const CHANNEL: u8>(side: &mut Side, call: &Call) -> Answer {
+    read_as(side, call, PORT, |side| jumpered(side, PORT, CHANNEL))
+}
+
+fn jumper_to_line<const PORT: u8, const CHANNEL: u8>(side: &mut Side, call: &Call) -> Answer {
+    lines_as(side, call, |side, port| match port {
+        _ if port == PORT => jumpered(side, port, CHANNEL),
+        _ => shown(side, port),
+    })
+}
+
+fn not_in_port<const PORT: u8, const CHANNEL: u8>(side: &mut Side, call: &Call) -> Answer {
+    read_as(side, call, PORT, |side| shown(side, PORT) & !(1 << CHANNEL))
+}
+
+fn no_line<const PORT: u8, const CHANNEL: u8>(side: &mut Side, call: &Call) -> Answer {
+    lines_as(side, call, |side, port| match port {
+        _ if port == PORT => shown(side, port) & !(1 << CHANNEL),
+        _ => shown(side, port),
+    })
 }
 
 // Masks, and what a poll leaves.

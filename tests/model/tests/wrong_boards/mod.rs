@@ -1,9 +1,11 @@
 //! Wrong boards: what each does with a call. `all` names them.
 
+mod answers;
 mod interrupts;
 mod neighbours;
 mod order;
 mod ranges;
+mod refused;
 mod resets;
 mod selects;
 
@@ -20,6 +22,8 @@ pub fn all() -> Vec<Wrong> {
         interrupts::ALL,
         selects::ALL,
         order::ALL,
+        refused::ALL,
+        answers::ALL,
         resets::ALL,
         ranges::ALL,
     ]

@@ -22,6 +22,10 @@ pub const ALL: &[Wrong] = &[
         "a select is taken by the selected board alone",
         select_is_the_selected_boards,
     ),
+    ("a call that is done cuts the stored select", done_cuts),
+    ("a poll cuts the stored select", poll_cuts),
+    ("a tick cuts the stored select", tick_cuts),
+    ("a refused call cuts the stored select", refused_cuts),
 ];
 
 fn select_is_not_cut(side: &mut Side, call: &Call) -> Answer {
@@ -90,4 +94,33 @@ fn select_is_the_selected_boards(side: &mut Side, call: &Call) -> Answer {
         Call::Out(7, _) if !side.board.is_selected() => call.refused(right),
         _ => side.call(call),
     }
+}
+
+/// What is stored is cut behind a call of which a fact holds.
+fn cut_behind(side: &mut Side, call: &Call, fact: fn(&Call, u8) -> bool) -> Answer {
+    let answer = side.call(call);
+    if fact(call, answer.0) {
+        side.board.select %= 32;
+    }
+    answer
+}
+
+fn done_cuts(side: &mut Side, call: &Call) -> Answer {
+    cut_behind(side, call, |_, refusal| refusal == 0)
+}
+
+fn poll_cuts(side: &mut Side, call: &Call) -> Answer {
+    cut_behind(side, call, |call, _| {
+        matches!(call, Call::In(4 | 5) | Call::Interrupts)
+    })
+}
+
+fn tick_cuts(side: &mut Side, call: &Call) -> Answer {
+    cut_behind(side, call, |call, _| {
+        matches!(call, Call::Transmit(_) | Call::Receive(..))
+    })
+}
+
+fn refused_cuts(side: &mut Side, call: &Call) -> Answer {
+    cut_behind(side, call, |_, refusal| refusal != 0)
 }
