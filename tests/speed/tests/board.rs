@@ -28,17 +28,17 @@ impl Plain {
         }
     }
 
-    /// The refusal and the values.
+    /// The refusal and the values; a call that has none answers 0.
     fn call(&mut self, call: &Call) -> Vec<u8> {
         let (board, room) = (&mut self.board, &mut self.room[..self.count]);
         let apart = |answer: u16| vec![(answer >> 8) as u8, answer as u8];
         match *call {
             Call::In(port) => apart(board.input(room, port)),
-            Call::Out(port, value) => vec![board.output(room, port, value)],
-            Call::Reset => vec![board.reset(room)],
-            Call::Pins(channel, levels) => vec![set_pins(room, channel, levels)],
+            Call::Out(port, value) => vec![board.output(room, port, value), 0],
+            Call::Reset => vec![board.reset(room), 0],
+            Call::Pins(channel, levels) => vec![set_pins(room, channel, levels), 0],
             Call::Transmit(channel) => apart(transmit(room, channel)),
-            Call::Receive(channel, level) => vec![receive(room, channel, level)],
+            Call::Receive(channel, level) => vec![receive(room, channel, level), 0],
             Call::Outputs(channel) => {
                 let answer = outputs(room, channel);
                 let levels = (0..5).map(|bit| (answer >> bit & 1) as u8);
