@@ -94,8 +94,8 @@ INTERFACER3_AT(interfacer3, channel, sizeof(interfacer3_board), INTERFACER3_CHAN
 #undef INTERFACER3_AT
 #undef INTERFACER3_HOLDS
 
-/* The calls. `room` is that of the channels, as many as `channels` says; the board must not lie in it. Other than eight are refused, and
- * nothing is looked at. */
+/* The calls. `room` points to the channels, and `channels` is their count; the board must not lie among them. Any count but eight is refused
+ * with 10, and nothing is looked at. */
 
 /* Reads a port of the board; answers its value. Reading 4 and 5 changes nothing. */
 uint16_t interfacer3_in(interfacer3_board *board, ins2651 *room, size_t channels, uint8_t port);

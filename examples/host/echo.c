@@ -21,7 +21,7 @@ static void set_up(interfacer3 *board) {
     i3_out(board, INTERFACER3_RECEIVE_INTERRUPTS, 0xFF);
 }
 
-/* Who has typed gets his character back. The manual's program waits until it may be sent; here the line ticks in the same loop, so that
+/* Whoever has typed gets his character back. The manual's program waits until it may be sent; here the line ticks in the same loop, so that
  * the character waits in its register. */
 static void echo(interfacer3 *board) {
     const int typed_and_ready = INS2651_STATUS_RXRDY | INS2651_STATUS_TXRDY;

@@ -2,7 +2,7 @@
 // room of its channels, proofs/ what that comes to over runs of calls; the calls themselves are `board`'s. No code stands here, so that a
 // wrong definition or statement is refused without proving the calls again.
 
-// What a board has besides its channels: its number, as it is strapped, the user select and the two interrupt masks.
+// What a board has besides its channels: its number, as its switches are set, the user select and the two interrupt masks.
 #[repr(C)]
 pub struct Board {
     pub number: u8,
