@@ -1,6 +1,6 @@
--- The four shapes of a call on a lent board and room, each over any plan, any call of the chip and any summary, with any number of bytes: it is about one
--- channel and answers as the chip does (`meets-straight`) or 256 times that (`meets-raised`); it is about all channels (`meets-whole`); or about one or all
--- (`meets-either`). What each promises is what its plan, the chip's call and the summary come to. All that is known of those is their contracts.
+-- The shapes of a call on a lent board and room, each over any plan, any call of the chip and any summary, with any number of bytes: it is about one
+-- channel and answers as the chip does (`meets-straight`) or 256 times that (`meets-raised`); it is about all channels, with an answer of 16 bits (`meets-whole`)
+-- or of 32 (`meets-wide`); or about one or all (`meets-either`). What each promises is what its plan, the chip's call and the summary come to. All that is known of those is their contracts.
 -- Assumes nothing.
 use mathlib.Core.Path.{_≡_, refl, ap, sym, _∙_}
 use Prim.Native.Nat.{ℕ, zero, suc, _<_, _≤_, _^_, _+_, _*_}

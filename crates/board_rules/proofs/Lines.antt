@@ -36,7 +36,7 @@ use Rattle.board_rules.specs.Ports.{Call, In, Out, Reset, Transmit, Rece
 use Rattle.board_rules.specs.Runs.{deviceAt, asBits, saidBy, said}
 use Rattle.board_rules.specs.Channels.{reaches, callsBy}
 use Rattle.board_rules.specs.About.{about}
-use Rattle.board_rules.specs.Lines.{Boards, Which, One, Two, same, cabinet, called, told, deedOf, Spot, Spots, spotAt, isAt, deviceOf, pairOf, Joined, Aside, allCalled, Between, Step, Tick, On, sends, sent, hears, oneSent, bothSent, oneHeard, ticked, moved, allMoved, reachesSpot, madeAt, callSteps, none, asideSteps, aloof, oneByOne, stepsOf, stepsAt, begun, fresh}
+use Rattle.board_rules.specs.Lines.{Boards, Which, One, Two, same, cabinet, called, told, deedOf, Spot, Spots, spotAt, isAt, deviceOf, pairOf, Joined, Aside, allCalled, Between, Place, First, Second, Third, asidesAt, resetOf, Step, Tick, On, sends, sent, hears, oneSent, bothSent, oneHeard, ticked, moved, allMoved, reachesSpot, madeAt, callSteps, none, asideSteps, aloof, oneByOne, stepsOf, stepsAt, begun, fresh}
 use Rattle.board_rules.proofs.Channels.{channel-after, room-stays, unreached, one-shown, read-reaches, write-reaches}
 use Rattle.board_rules.proofs.Alone.{about-one}
 
@@ -430,7 +430,7 @@ stops-one-way : (s : Side) (L : ℕ) (e : Logged Pair) (ss ts : List bench.Step)
     → one-way.allAllowed (wayFrom s) L e (ss ++ ts) ≡ false
 stops-one-way s L e ss ts h = allowed-append (wayFrom s) L e ss ts ∙ rw (h (one-way.runs (wayFrom s) e ss)) (and-false (one-way.allAllowed (wayFrom s) L e ss))
 
--- behind any steps xs
+-- a reset of the board of either channel is not allowed, behind any steps xs
 module _ (l : Spots) (w : Boards) (j : Joined l w) (xs : List Step) (s : Side) (ys : List Step) where
   abbrev k : Which
   k = spotAt s l .which
@@ -468,7 +468,8 @@ module _ (l : Spots) (w : Boards) (j : Joined l w) (xs : List Step) (s : Side) (
 
 -- == nor may a call that takes a joined tick apart ==
 
--- from the second chip a single transmit tick of it is not allowed, whatever comes before it and behind it
+-- on the way from the second chip a single transmit tick of it is not allowed, whatever comes before it. (As `stops-one-way`, but what comes behind it stands in
+-- parts that are appended one after the other.)
 second-stops : (L : ℕ) (e : Logged Pair) (ss ts us vs ws : List bench.Step) → one-way.allAllowed (wayFrom B) L e (ss ++ (bench.At B chip.Transmit ∷ ts) ++ us ++ vs ++ ws) ≡ false
 second-stops L e [] ts us vs ws = refl
 second-stops L e (x ∷ ss) ts us vs ws = rw (second-stops L (one-way.step (wayFrom B) e x) ss ts us vs ws) (and-false (one-way.allowed (wayFrom B) L e x))
@@ -499,29 +500,14 @@ none-behind : (ss ts : List bench.Step) → none ts ≡ false → none (ss ++ ts
 none-behind [] ts h = h
 none-behind (x ∷ ss) ts h = refl
 
--- a reset of the board of the channel at a side
-abbrev pub resetOf : Spots → Side → Aside
-resetOf l s = record { which = spotAt s l .which; call = Reset }
-
--- calls with one among them, wherever it stands, are something to the two
+-- calls with a reset of the board of either channel among them, wherever it stands, are something to the two
 pub reset-among : (l : Spots) (s : Side) (us vs : List Aside) (w : Boards) → Joined l w → none (asideSteps l (us ++ resetOf l s ∷ vs) w) ≡ false
 reset-among l s [] vs w j = ap none (resets-first l w j s (asideSteps l vs (called (spotAt s l .which) Reset w)) .1 .1)
 reset-among l s (x ∷ us) vs w j =
     let u : Boards = called (x .which) (x .call) w in
     none-behind (callSteps l (x .which) (deedOf (x .which) (x .call) w)) (asideSteps l (us ++ resetOf l s ∷ vs) u) (reset-among l s us vs u (still-joined l w (x .which) (x .call) j))
 
--- the three places between the four calls of a joined tick
-pub data Place : Type 0 where
-  First : Place
-  Second : Place
-  Third : Place
-
-abbrev pub asidesAt : Place → Between → List Aside
-asidesAt First m = m .first
-asidesAt Second m = m .second
-asidesAt Third m = m .third
-
--- at any of these it takes the tick apart
+-- so between the four calls of a joined tick, at any of the three places, it takes the tick apart
 pub reset-tears : (l : Spots) (m : Between) (w : Boards) → Joined l w → (i : Place) (s : Side) (us vs : List Aside) → asidesAt i m ≡ us ++ resetOf l s ∷ vs → aloof l m w ≡ false
 reset-tears l m w j i s us vs = at i
   where

@@ -17,7 +17,7 @@ use Rattle.board_rules.specs.declared.Board.{Board}
 use Rattle.board_rules.specs.Interrupts.{transmitStatus, receiveStatus, transmitLines, receiveLines, bothBytes}
 use Rattle.board_rules.specs.Ports.{Call, In, Out, Reset, Pins, Transmit, Receive, Outputs, Interrupts, Deed, Refused, Shows, Sets, At, ResetsAll, channelOf, selected, withSelect, withTransmitMask, withReceiveMask, resetBoard, refusal, roomRefusal, inRefusal, outRefusal, namedRefusal, unless, reading, writing, named, deed}
 use Rattle.board_rules.specs.Runs.{boardBy, roomBy, saidBy, Said, boardAfter, roomAfter, said}
-use Rattle.board_rules.specs.About.{sets, looks}
+use Rattle.board_rules.specs.About.{sets, looks, cut}
 
 -- == what stays ==
 
@@ -139,18 +139,18 @@ module _ (b : Board) (room : List Device) (eight : length room ≡ 8) where
 pub never-selected : (b : Board) → 3 < b .number → selected b ≡ false
 never-selected b h = ne-eqb (b .select / 8 % 4) (b .number) (λ e. omega arith)
 
--- a written v selects channel v % 8 of the board numbered v / 8 % 4, whatever its bits 7-5 are; so of a stored select, as v, the low five bits count
+-- of five bits the two highest are the board's
+board-bits : (b : Board) (v : ℕ) → eqb (v % 32 / 8 % 4) (b .number) ≡ eqb (v / 8 % 4) (b .number)
+board-bits b v = ap (λ (n : ℕ). eqb n (b .number)) (let e : v % 32 / 8 % 4 ≡ v / 8 % 4 = omega arith in e)
+
+-- a written v selects channel v % 8 of the board numbered v / 8 % 4, whatever its bits 7-5 are
 pub selects-channel : (b : Board) (v : ℕ) → channelOf (withSelect b v) ≡ v % 8
 selects-channel b v = omega arith
 
 pub selects-board : (b : Board) (v : ℕ) → selected (withSelect b v) ≡ eqb (v / 8 % 4) (b .number)
-selects-board b v = ap (λ (n : ℕ). eqb n (b .number)) (let e : v % 32 / 8 % 4 ≡ v / 8 % 4 = omega arith in e)
+selects-board b v = board-bits b v
 
 -- == a stored select ==
-
--- the board with the low five bits of its select
-abbrev pub cut : Board → Board
-cut b = record { number = b .number; select = b .select % 32; «transmit_mask» = b .«transmit_mask»; «receive_mask» = b .«receive_mask» }
 
 -- what is cut twice is cut once
 cut-twice : (d : Board) → cut d ≡ cut (cut d)
@@ -172,7 +172,7 @@ module _ (b : Board) (room : List Device) where
   same-channel = omega arith
 
   same-board : selected b ≡ selected (cut b)
-  same-board = ap (λ (n : ℕ). eqb n (b .number)) (let e : b .select / 8 % 4 ≡ b .select % 32 / 8 % 4 = omega arith in e)
+  same-board = sym (board-bits b (b .select))
 
   at-alike : (x : chip.Call) → Alike b room (At (channelOf b) x) (At (channelOf (cut b)) x)
   at-alike x = subst (λ (k : ℕ). Alike b room (At (channelOf b) x) (At k x)) same-channel (alike (At (channelOf b) x) refl refl)

@@ -1,6 +1,7 @@
--- Which calls of a board are about one channel, which change its masks and its select, and which change nothing: by the board and the call alone.
+-- Which calls of a board are about one channel, which change its masks and its select, and which change nothing: by the board and the call alone. And what
+-- counts of a stored select.
 -- Assumes nothing.
-use Prim.Native.Nat.{ℕ}
+use Prim.Native.Nat.{ℕ, _%_}
 use mathlib.Core.Bool.{Bool, true, false, not, _&&_, _||_}
 use lib.Dec.{eqb}
 use Rattle.board_rules.specs.declared.Board.{Board}
@@ -47,3 +48,7 @@ looks (Transmit channel) = false
 looks (Receive channel x) = false
 looks (Outputs channel) = true
 looks Interrupts = true
+
+-- the board with the low five bits of its select, which are all that count
+abbrev pub cut : Board → Board
+cut b = record { number = b .number; select = b .select % 32; «transmit_mask» = b .«transmit_mask»; «receive_mask» = b .«receive_mask» }

@@ -12,7 +12,7 @@ use Rattle.delivery.specs.Log.{nothingYet}
 use Rattle.delivery.specs.Joined.{Side, A, B}
 use Rattle.joined_rules.specs.declared.Pair.{Pair}
 use Rattle.joined_rules.specs.Bench as bench
-use Rattle.board_rules.specs.Ports.{Call, Transmit, Receive, Deed, deed}
+use Rattle.board_rules.specs.Ports.{Call, Reset, Transmit, Receive, Deed, deed}
 use Rattle.board_rules.specs.Runs.{deviceAt, said, Cabinet, next}
 use Rattle.board_rules.specs.Channels.{reaches, callsBy}
 
@@ -97,6 +97,20 @@ pub record Between : Type 0 where
 
 abbrev pub nothing : Between
 nothing = record { first = []; second = []; third = [] }
+
+pub data Place : Type 0 where
+  First : Place
+  Second : Place
+  Third : Place
+
+abbrev pub asidesAt : Place → Between → List Aside
+asidesAt First m = m .first
+asidesAt Second m = m .second
+asidesAt Third m = m .third
+
+-- a reset of the board that has the channel at a side
+abbrev pub resetOf : Spots → Side → Aside
+resetOf l s = record { which = spotAt s l .which; call = Reset }
 
 -- a joined tick of the two channels, or any call to one of the boards
 pub data Step : Type 0 where
