@@ -8,45 +8,37 @@ use crate::board::{Call, CHANNELS, NOT_SELECTED, NO_SUCH_PORT, WRONG_ROOM};
 use crate::calls::Lent;
 use crate::chip::Chip;
 
-/// The calls that change a board, and the refusals that can keep them from it.
-const CHANGE_A_BOARD: [(&str, &[u8]); 5] = [
-    ("a write of port 4", &[10, 9]),
-    ("a write of port 5", &[10, 9]),
-    ("a write of port 7", &[10]),
-    ("a write of a port above 7", &[10, 8]),
-    ("a reset", &[10]),
-];
+/// What a refusal keeps: the board or a channel as it was, or a value back.
+enum Kept {
+    Board,
+    Channel,
+    Value,
+}
+use Kept::{Board, Channel, Value};
 
-/// The calls that change a channel, and the refusals that can keep them from it.
-const CHANGE_A_CHANNEL: [(&str, &[u8]); 14] = [
-    ("a read of port 0", &[10, 9]),
-    ("a read of port 1", &[10, 9]),
-    ("a read of port 2", &[10, 9]),
-    ("a read of port 3", &[10, 9]),
-    ("a read of a port above 7", &[10, 8]),
-    ("a write of port 0", &[10, 9]),
-    ("a write of port 1", &[10, 9]),
-    ("a write of port 2", &[10, 9, 3, 4]),
-    ("a write of port 3", &[10, 9, 5]),
-    ("a write of a port above 7", &[10, 8]),
-    ("a reset", &[10]),
-    ("a call of pins", &[10, 8, 2]),
-    ("a transmit tick", &[10, 8]),
-    ("a receive tick", &[10, 8, 2]),
-];
-
-/// The calls that answer a value, and the refusals that can keep them from it.
-const TELL_A_VALUE: [(&str, &[u8]); 10] = [
-    ("a read of port 0", &[10, 9]),
-    ("a read of port 1", &[10, 9]),
-    ("a read of port 2", &[10, 9]),
-    ("a read of port 3", &[10, 9]),
-    ("a read of port 4", &[10, 9]),
-    ("a read of port 5", &[10, 9]),
-    ("a read of a port above 7", &[10, 8]),
-    ("a transmit tick", &[10, 8]),
-    ("a look at outputs", &[10, 8]),
-    ("a look at interrupts", &[10]),
+/// The calls, the refusals that there are of each, and what they keep.
+const CALLS: [(&str, &[u8], &[Kept]); 21] = [
+    ("a read of port 0", &[10, 9], &[Channel, Value]),
+    ("a read of port 1", &[10, 9], &[Channel, Value]),
+    ("a read of port 2", &[10, 9], &[Channel, Value]),
+    ("a read of port 3", &[10, 9], &[Channel, Value]),
+    ("a read of port 4", &[10, 9], &[Value]),
+    ("a read of port 5", &[10, 9], &[Value]),
+    ("a read of a port above 7", &[10, 8], &[Channel, Value]),
+    ("a write of port 0", &[10, 9], &[Channel]),
+    ("a write of port 1", &[10, 9], &[Channel]),
+    ("a write of port 2", &[10, 9, 3, 4], &[Channel]),
+    ("a write of port 3", &[10, 9, 5], &[Channel]),
+    ("a write of port 4", &[10, 9], &[Board]),
+    ("a write of port 5", &[10, 9], &[Board]),
+    ("a write of port 7", &[10], &[Board]),
+    ("a write of a port above 7", &[10, 8], &[Board, Channel]),
+    ("a reset", &[10], &[Board, Channel]),
+    ("a call of pins", &[10, 8, 2], &[Channel]),
+    ("a transmit tick", &[10, 8], &[Channel, Value]),
+    ("a receive tick", &[10, 8, 2], &[Channel]),
+    ("a look at outputs", &[10, 8], &[Value]),
+    ("a look at interrupts", &[10], &[Value]),
 ];
 
 const BOARD: &str = "board";
@@ -77,19 +69,24 @@ fn kept_back(call: &str, refusal: u8) -> String {
 }
 
 pub fn name(counts: &mut Counts) {
-    for (call, refusals) in TELL_A_VALUE {
-        counts.name(refusals.iter().map(|number| kept_back(call, *number)));
-    }
-    let tables = [
-        (BOARD, &CHANGE_A_BOARD[..]),
-        (IN_RANGE, &CHANGE_A_CHANNEL),
-        (OUT_OF_RANGE, &CHANGE_A_CHANNEL),
-    ];
-    for (what, calls) in tables {
-        for (call, refusals) in calls {
-            counts.name(refusals.iter().map(|number| left(what, call, *number)));
+    for (call, refusals, all) in CALLS {
+        for kept in all {
+            match kept {
+                Board => name_left(counts, BOARD, call, refusals),
+                Channel => {
+                    name_left(counts, IN_RANGE, call, refusals);
+                    name_left(counts, OUT_OF_RANGE, call, refusals);
+                }
+                Value => {
+                    counts.name(refusals.iter().map(|number| kept_back(call, *number)));
+                }
+            }
         }
     }
+}
+
+fn name_left(counts: &mut Counts, what: &str, call: &str, refusals: &[u8]) {
+    counts.name(refusals.iter().map(|number| left(what, call, *number)));
 }
 
 /// A refused call, whose values are 0.
