@@ -1,6 +1,6 @@
 // Two devices joined by a line: document 01, "Receiving, by receive ticks", on joined ticks.
-// Every call takes any number in any field, and none is refused. A device out of range is taken as one just reset,
-// but by a run of 0, which changes nothing.
+// Every call takes any number in any field. A joined tick is never refused; a run of more than 65535 is, with 16, and hands the pair back
+// as given. A device out of range is taken as one just reset, but by a run of 0, which changes nothing.
 ghost use mathlib.Core.Path.{_≡_};
 ghost use Prim.Native.Nat.{_≤_};
 ghost use Rattle.joined_rules.specs.Joining;
@@ -9,6 +9,7 @@ ghost use Rattle.joined_rules.specs.Skipping.{calmTicks};
 use ins2651_rules::Ticked;
 use joined_rules::Joined;
 use joined_rules::Pair;
+use joined_rules::Ran;
 
 fn settle(p: Pair) -> Pair
     ensures { λ r. ⌜ r ≡ settledPair p ⌝ }
@@ -91,11 +92,27 @@ fn ticks_on(p: Pair, n: u16) -> Pair
 }
 
 // n joined ticks; the ranges are checked once.
-pub fn run(p: Pair, n: u16) -> Pair
+fn ticks_from(p: Pair, n: u16) -> Pair
     ensures { λ r. ⌜ r ≡ ticks n p ⌝ }
 {
     if n == 0 {
         return p;
     }
     ticks_on(settle(p), n)
+}
+
+// n joined ticks at once; 16 where n is above 65535.
+pub fn run(p: Pair, n: u32) -> Ran
+    ensures { λ r. ⌜ r ≡ Joining.run p n ⌝ }
+{
+    if 65535 < n {
+        return Ran {
+            refusal: 16,
+            pair: p,
+        };
+    }
+    Ran {
+        refusal: 0,
+        pair: ticks_from(p, n as u16),
+    }
 }

@@ -1,4 +1,5 @@
 pub mod Runs
+pub mod RunsRefused
 pub mod InRounds
 pub mod SetUps
 pub mod Ways

@@ -28,7 +28,7 @@ pub record BothIn (p : Pair) : Type 0 where
   pub a : inRange (p .a) ≡ true
   pub b : inRange (p .b) ≡ true
 
-settled-both : (p : Pair) → BothIn (settledPair p)
+pub settled-both : (p : Pair) → BothIn (settledPair p)
 settled-both p = record { a = settled-in (p .a); b = settled-in (p .b) }
 
 pub settled-pair : (p : Pair) → BothIn p → settledPair p ≡ p

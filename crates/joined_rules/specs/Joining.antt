@@ -1,12 +1,15 @@
 -- Two devices joined: document 01, "Receiving, by receive ticks". A joined tick is both transmit ticks, then each receiver takes the other's level.
 -- Assumes nothing.
 use Prim.Native.Nat.{ℕ, zero, suc}
+use mathlib.Core.Bool.{cond}
+use lib.Dec.{ltb}
 use Rattle.line_rules.specs.Sending.{on}
 use Rattle.ins2651_rules.specs.declared.Ticked.{Ticked}
 use Rattle.ins2651_rules.specs.Ranges.{settled}
 use Rattle.ins2651_rules.specs.Ticks.{transmitTick, transmit, receiveTick, receive}
 use Rattle.joined_rules.specs.declared.Pair.{Pair}
 use Rattle.joined_rules.specs.declared.Joined.{Joined}
+use Rattle.joined_rules.specs.declared.Ran.{Ran}
 
 -- the call, by the chip's own calls; it is never refused
 unfoldable pub tick : Pair → Joined
@@ -20,10 +23,18 @@ tick p =
       b = transmit (p .b) .level;
     }
 
--- n of them, one after another: what a run of n leaves
+-- n of them, one after another
 abbrev pub ticks : ℕ → Pair → Pair
 ticks zero p = p
 ticks (suc n) p = ticks n (tick p .pair)
+
+-- request P9, "Long silent runs": 16 where n is above 65535
+abbrev pub runRefusal : ℕ → ℕ
+runRefusal n = cond (ltb 65535 n) 16 0
+
+-- the call that does n at once: what as many single ones leave, or, refused, the pair as given
+unfoldable pub run : Pair → ℕ → Ran
+run p n = record { refusal = runRefusal n; pair = cond (ltb 65535 n) p (ticks n p) }
 
 -- == the same on a pair in range ==
 

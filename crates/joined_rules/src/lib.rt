@@ -17,3 +17,10 @@ pub struct Joined {
     pub a: u8,
     pub b: u8,
 }
+
+// What a run of joined ticks answers: its refusal, 0 where it is done, and the pair after it.
+#[repr(C)]
+pub struct Ran {
+    pub refusal: u8,
+    pub pair: Pair,
+}

@@ -376,7 +376,7 @@ fn chip_cases() {
 
 // Two devices that send and hear, after the one joined tick of document 01's set-up.
 fn fresh_pair(a: Device, b: Device) -> Pair {
-    joined::run(Pair { a: a, b: b }, 1)
+    joined::run(Pair { a: a, b: b }, 1).pair
 }
 
 fn a_writes(p: Pair, address: u8, value: u8) -> Pair {
@@ -404,8 +404,8 @@ fn b_shows(p: Pair, address: u8) -> Pair {
 fn worked_session() {
     text(b"K\tsession\n");
     let fresh = fresh_pair(set_up(206, 126, 39), set_up(206, 126, 39));
-    let early = b_shows(joined::run(a_writes(fresh, 0, 255), 152), 1);
-    b_shows(b_shows(b_shows(joined::run(early, 1), 1), 0), 1);
+    let early = b_shows(joined::run(a_writes(fresh, 0, 255), 152).pair, 1);
+    b_shows(b_shows(b_shows(joined::run(early, 1).pair, 1), 0), 1);
 }
 
 // The fault code 255 sent with even parity (126) and received with odd (94); a good weight after it, with the mode mended.
@@ -413,9 +413,12 @@ fn worked_session() {
 fn fault_code() {
     text(b"K\tfault\n");
     let fresh = fresh_pair(set_up(126, 0, 5), set_up(94, 0, 5));
-    let bad = b_shows(b_shows(joined::run(a_writes(fresh, 0, 255), 176), 1), 0);
+    let bad = b_shows(
+        b_shows(joined::run(a_writes(fresh, 0, 255), 176).pair, 1),
+        0,
+    );
     let weighed = a_writes(a_writes(bad, 2, 94), 0, 100);
-    let good = b_shows(b_shows(b_shows(joined::run(weighed, 176), 1), 0), 1);
+    let good = b_shows(b_shows(b_shows(joined::run(weighed, 176).pair, 1), 0), 1);
     b_shows(b_writes(good, 3, 21), 1);
 }
 

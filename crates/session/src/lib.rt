@@ -112,6 +112,18 @@ fn refused(p: Pair, n: u8) -> Reply
     }
 }
 
+// So many joined ticks, as one run: 16 is not given up to 65535.
+fn ticking(p: Pair, count: u16) -> Reply
+    ensures { λ r. ⌜ r ≡ Calls.ticking p count ⌝ }
+{
+    let ran = joined::run(p, count as u32);
+    let pair = ran.pair;
+    Reply {
+        pair: pair,
+        said: Said::Nothing,
+    }
+}
+
 // What a record does. A line that has none's shape is refusal 6.
 fn obey(p: Pair, r: Record) -> Reply
     ensures { λ a. ⌜ a ≡ Calls.obey p r ⌝ }
@@ -129,10 +141,7 @@ fn obey(p: Pair, r: Record) -> Reply
             )
         }
         Record::Reset(unit) => replied(p, unit, ins2651::reset(), Said::Nothing),
-        Record::Ticks(count) => Reply {
-            pair: joined::run(p, count),
-            said: Said::Nothing,
-        },
+        Record::Ticks(count) => ticking(p, count),
         Record::Shapeless => refused(p, 6),
     }
 }

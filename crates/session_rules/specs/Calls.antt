@@ -53,6 +53,10 @@ reading p unit address =
     replied p unit (read (deviceOf p unit) address .device)
     (verdict (read (deviceOf p unit) address .refusal) (Value unit address (read (deviceOf p unit) address .value)))
 
+-- so many joined ticks; a line has 65535 at most, so that 16 is never said of it
+abbrev pub ticking : Pair → ℕ → Reply
+ticking p count = record { pair = ticks count p; said = Nothing }
+
 -- a line that is refused for itself leaves the pair alone
 abbrev pub refused : Pair → ℕ → Reply
 refused p n = record { pair = p; said = Refusal n }
@@ -62,7 +66,7 @@ obey p (Write unit address v) = answered p unit (write (deviceOf p unit) address
 obey p (Read unit address) = reading p unit address
 obey p (Pins unit dsr dcd cts) = answered p unit (setPins (deviceOf p unit) dsr dcd cts)
 obey p (Reset unit) = replied p unit resetDevice Nothing
-obey p (Ticks count) = record { pair = ticks count p; said = Nothing }
+obey p (Ticks count) = ticking p count
 obey p Shapeless = refused p 6
 
 -- a line: 7 over 64 bytes, else 6 for no shape, else the device's number, else done

@@ -1,22 +1,20 @@
--- `joined::run` meets its contract: an empty run leaves the pair as given, any other runs the pair settled.
+-- `joined::run` meets its contract: refused above 65535, else so many ticks.
 -- Assumes nothing.
 use native.Mathlib.Omega.{arith}
 use mathlib.Core.Path.{_≡_, ap, sym, _∙_}
-use Prim.Native.Nat.{ℕ}
 use borrow.Author.Needs.{needs}
-use Rattle.joined_rules.specs.Joining.{ticks, joinedTicks}
-use Rattle.joined_rules.proofs.Runs.{settled-ticks}
+use Rattle.joined_rules.specs.declared.Pair.{Pair}
+use Rattle.joined_rules.proofs.RunsRefused.{run-refused, run-done}
 use Rattle.joined.proofs.run.Statement.{statement}
 use Rattle.joined.proofs.run.Tie as tie
 
 returns : tie.Need-returns
-returns c = let e : c .before .args .n ≡ 0 = omega (arith, c .if1 .taken) in sym (ap (λ (k : ℕ). ticks k (c .before .args .p)) e)
+returns c = sym (run-refused (c .before .args .p) (c .before .args .n) (omega (arith, c .if1 .taken)))
 
 returns-2 : tie.Need-returns-2
 returns-2 c =
-    c .ticks-on .ensures
-    ∙ ap (joinedTicks (c .before .before .before .args .n)) (c .before .settle .ensures)
-    ∙ settled-ticks (c .before .before .before .args .n) (c .before .before .before .args .p) (omega (arith, c .before .before .if1 .left))
+    ap (λ (q : Pair). record { refusal = 0; pair = q }) (c .ticks-from .ensures)
+    ∙ sym (run-done (c .before .before .args .p) (c .before .before .args .n) (omega (arith, c .before .if1 .left)))
 
 pub run-spec : {M : Type 1} → statement M
-run-spec = tie.close (tie.spec returns (λ c κs. search needs) (λ c κs. search needs) returns-2)
+run-spec = tie.close (tie.spec returns (λ c. search needs) (λ c κs. search needs) returns-2)

@@ -23,7 +23,7 @@ returns-4 c = rw (c .before .before .before .r4 .given .1, c .replied .ensures, 
 
 returns-5 : tie.Need-returns-5
 unfolding obey
-returns-5 c = rw (c .before .before .r5 .given .1, c .run .ensures)
+returns-5 c = rw (c .before .before .r5 .given .1, c .ticking .ensures)
 
 returns-6 : tie.Need-returns-6
 unfolding obey
