@@ -21,8 +21,8 @@ use Rattle.ins2651_rules.specs.Ticks.{transmitTick, transmit, receiveTick, rece
 use Rattle.ins2651_rules.specs.Status.{statusByte, peek, outputsOf, outputs}
 use Rattle.ins2651_rules.proofs.Done.{register-done, done-write, done-pins, done-receive}
 use Rattle.ins2651_rules.proofs.Settled.{settled-is, settled-out, settled-in}
-use Rattle.calm_rules.specs.Calm.{rests, searches, still}
-use Rattle.calm_rules.proofs.Still.{rests-still, searches-still, still-stays}
+use Rattle.ins2651_rules.specs.Still.{rests, searches, still}
+use Rattle.ins2651_rules.proofs.StaysStill.{rests-still, searches-still, still-stays}
 use Rattle.host.specs.declared.Reply.{Reply}
 use Rattle.host.specs.Replies.{word, levels, bothTicks, heard, ticked, readRefused, writeRefused, pinsRefused, levelRefused, tickRefused}
 use Rattle.host.proofs.Calls.{Bytes, Promise}

@@ -13,7 +13,7 @@ use Rattle.ins2651_rules.specs.RegisterWrites as RegisterWrites
 use Rattle.ins2651_rules.specs.Pinning as Pinning
 use Rattle.ins2651_rules.specs.Ticks as Ticks
 use Rattle.ins2651_rules.specs.Status as Status
-use Rattle.calm_rules.specs.Calm.{searches, still}
+use Rattle.ins2651_rules.specs.Still.{searches, still}
 use Rattle.host.specs.declared.Reply.{Reply}
 
 -- a read as one number: 256 times the refusal, and the value; so a tick, whose value is the level sent

@@ -287,7 +287,7 @@ fn send(d: &mut Device) -> u16
     ensures { λ r. ⌜ (r ≡ transmitTick (now (d .entry)) .level) × (now (d .exit) ≡ transmitTick (now (d .entry)) .device) ⌝ }
 {
     let before = *d;
-    let still = calm::rests(before);
+    let still = ins2651::rests(before);
     if still {
         return 1;
     }
@@ -308,7 +308,7 @@ fn hear(d: &mut Device, level: u8) -> u16
     ensures { λ r. ⌜ (r ≡ 0) × (now (d .exit) ≡ heard (now (d .entry)) level) ⌝ }
 {
     let before = *d;
-    let still = calm::searches(before, level);
+    let still = ins2651::searches(before, level);
     if still {
         return 0;
     }
@@ -327,7 +327,7 @@ fn hear_and_send(d: &mut Device, level: u8) -> u16
     ensures { λ r. ⌜ (r ≡ ticked (now (d .entry)) level .answer) × (now (d .exit) ≡ ticked (now (d .entry)) level .device) ⌝ }
 {
     let before = *d;
-    let still = calm::still(before, level);
+    let still = ins2651::still(before, level);
     if still {
         return 1;
     }

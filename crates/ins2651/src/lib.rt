@@ -1,10 +1,10 @@
 // The INS2651 over its two halves: document 01's registers, pins, outputs and ticks.
 // Every call takes any number in any field. A device out of range is taken as one just reset; a refused call hands it back as given.
-// The acts below the calls (the two ticks, the reads and writes of registers, pins, status, outputs) and the refusals check no range: they are
-// for a caller that settles its device once (docs/RANGES.md).
+// The acts below the calls (the two ticks, the reads and writes of registers, pins, status, outputs), the conditions and the refusals check no range:
+// they are for a caller that settles its device once (docs/RANGES.md).
 ghost use mathlib.Core.Path.{_≡_};
 ghost use Prim.Native.Nat.{_≤_};
-ghost use Rattle.line_rules.specs.Sending.{bit};
+ghost use Rattle.line_rules.specs.Sending.{bit, orSet};
 ghost use Rattle.ins2651_rules.specs.Shape;
 ghost use Rattle.ins2651_rules.specs.Shape.{resetDevice, refusedRead, refused};
 ghost use Rattle.ins2651_rules.specs.Modes;
@@ -22,6 +22,7 @@ ghost use Rattle.ins2651_rules.specs.RegisterWrites.{writeHolding, synsWritten,
 ghost use Rattle.ins2651_rules.specs.Pinning.{setPins};
 ghost use Rattle.ins2651_rules.specs.Pinning;
 ghost use Rattle.ins2651_rules.specs.Ticks;
+ghost use Rattle.ins2651_rules.specs.Still;
 ghost use Rattle.ins2651_rules.specs.Ticks.{sentBy, transmitTick, receivedBy, receiveTick};
 use ins2651_rules::Answer;
 use ins2651_rules::Device;
@@ -35,6 +36,7 @@ use line_rules::Format;
 use line_rules::Heard;
 use link_rules::Received;
 use link_rules::ReceiverHalf;
+use link_rules::SenderHalf;
 use link_rules::Sent;
 
 // == bits ==
@@ -62,7 +64,7 @@ fn unless(t: bool, x: u8) -> u8
 }
 
 fn or_set(t: bool, x: u8) -> u8
-    ensures { λ r. ⌜ r ≡ Pinning.orSet t x ⌝ }
+    ensures { λ r. ⌜ r ≡ orSet t x ⌝ }
 {
     if t { 1 } else { x }
 }
@@ -111,13 +113,13 @@ fn format_of(m: u8, internal: bool) -> Format
     }
 }
 
-fn send_format(r: Registers) -> Format
+pub fn send_format(r: Registers) -> Format
     ensures { λ f. ⌜ f ≡ sendFormat r ⌝ }
 {
     format_of(r.mode1, has(32, r.mode2))
 }
 
-fn receive_format(r: Registers) -> Format
+pub fn receive_format(r: Registers) -> Format
     ensures { λ f. ⌜ f ≡ receiveFormat r ⌝ }
 {
     format_of(r.mode1, has(16, r.mode2))
@@ -125,7 +127,7 @@ fn receive_format(r: Registers) -> Format
 
 // == conditions ==
 
-fn transmit_enabled(d: Device) -> bool
+pub fn transmit_enabled(d: Device) -> bool
     ensures { λ r. ⌜ r ≡ Conditions.transmitEnabled d ⌝ }
 {
     has(1, d.registers.command)
@@ -150,20 +152,20 @@ fn mode_set(d: Device) -> bool
 }
 
 // A frame or a break may start.
-fn may_start(d: Device) -> bool
+pub fn may_start(d: Device) -> bool
     ensures { λ r. ⌜ r ≡ Conditions.mayStart d ⌝ }
 {
     transmit_enabled(d) & clear_to_send(d) & mode_set(d)
 }
 
-fn break_on(d: Device) -> bool
+pub fn break_on(d: Device) -> bool
     ensures { λ r. ⌜ r ≡ Conditions.breakOn d ⌝ }
 {
     has(8, d.registers.command)
 }
 
 // A receive tick looks at its sample.
-fn listening(d: Device) -> bool
+pub fn listening(d: Device) -> bool
     ensures { λ r. ⌜ r ≡ Conditions.listening d ⌝ }
 {
     has(4, d.registers.command) & carrier(d) & mode_set(d)
@@ -783,4 +785,34 @@ pub fn receive(d: Device, x: u8) -> Outcome
         return complete(receive_tick(settle(d), 0 < x));
     }
     refuse(n, d)
+}
+
+// == ticks that change nothing ==
+
+// Nothing may start.
+fn idle(s: SenderHalf, ready: bool, broken: bool) -> bool
+    ensures { λ r. ⌜ r ≡ Still.idle s ready broken ⌝ }
+{
+    !(ready & broken) & (s.guard == 0) & !(ready & (0 < s.full))
+}
+
+// A transmit tick of it sends 1 and changes nothing.
+pub fn rests(d: Device) -> bool
+    ensures { λ r. ⌜ r ≡ Still.rests d ⌝ }
+{
+    !(0 < d.sender.frame.place) & idle(d.sender, may_start(d), break_on(d))
+}
+
+// A receive tick of it with this level changes nothing, where it is in range.
+pub fn searches(d: Device, x: u8) -> bool
+    ensures { λ r. ⌜ r ≡ Still.searches d x ⌝ }
+{
+    (0 < x) & listening(d) & (d.receiver.state.phase == 1)
+}
+
+// Neither does.
+pub fn still(d: Device, x: u8) -> bool
+    ensures { λ r. ⌜ r ≡ Still.still d x ⌝ }
+{
+    searches(d, x) & rests(d)
 }

@@ -10,7 +10,7 @@ use borrow.Author.Tests.{ltb-true, ltb-false, le-ltb, leb-true, eq-eqb, eqb-true
 use Rattle.line_rules.specs.declared.Arrival.{Arrival}
 use Rattle.line_rules.specs.declared.Heard.{Heard}
 use Rattle.line_rules.specs.declared.Heard.the-variants.{Nothing, Character}
-use Rattle.line_rules.specs.Sending.{on, differ}
+use Rattle.line_rules.specs.Sending.{on, differ, orSet}
 use Rattle.line_rules.proofs.Table.{both}
 use Rattle.link_rules.specs.Parts.{dropped, emptied}
 use Rattle.link_rules.specs.Hearing.{arrives}
@@ -28,7 +28,7 @@ use Rattle.ins2651_rules.specs.Ranges.{inRange, settled}
 use Rattle.ins2651_rules.specs.Refusals.{readRefusal, commandRefusal, writeRefusal}
 use Rattle.ins2651_rules.specs.RegisterReads.{readRegister}
 use Rattle.ins2651_rules.specs.RegisterWrites.{unless, synsWritten, modesWritten, writeRegister}
-use Rattle.ins2651_rules.specs.Pinning.{orSet, changes, pinned}
+use Rattle.ins2651_rules.specs.Pinning.{changes, pinned}
 use Rattle.ins2651_rules.specs.Ticks.{sent, transmitTick, transmit, noted, received, receiveTick}
 use Rattle.ins2651_rules.specs.Runs.{Call, Reset, Read, Write, SetPins, Transmit, Receive, Outputs, next, after, said}
 use Rattle.ins2651_rules.specs.Rows.{refusal}

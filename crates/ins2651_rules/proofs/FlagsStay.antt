@@ -9,7 +9,7 @@ use lib.Dec.{eqb}
 use borrow.Author.Tests.{eq-eqb, eqb-true, eqb-false}
 use Rattle.line_rules.specs.declared.Heard.{Heard}
 use Rattle.line_rules.specs.declared.Heard.the-variants.{Nothing, Character}
-use Rattle.line_rules.specs.Sending.{bit, on}
+use Rattle.line_rules.specs.Sending.{bit, on, orSet}
 use Rattle.line_rules.proofs.Table.{both}
 use Rattle.line_rules.proofs.Choice.{either, each, not-so}
 use Rattle.ins2651_rules.specs.declared.Flags.{Flags}
@@ -19,7 +19,6 @@ use Rattle.ins2651_rules.specs.Modes.{commandClears}
 use Rattle.ins2651_rules.specs.Ranges.{inRange, settled}
 use Rattle.ins2651_rules.specs.Refusals.{commandRefusal, writeRefusal}
 use Rattle.ins2651_rules.specs.RegisterWrites.{unless, writeRegister}
-use Rattle.ins2651_rules.specs.Pinning.{orSet}
 use Rattle.ins2651_rules.specs.Ticks.{noted, received, receiveTick}
 use Rattle.ins2651_rules.specs.Runs.{Call, Reset, Read, Write, SetPins, Transmit, Receive, Outputs, next, after, nowhere}
 use Rattle.ins2651_rules.specs.Rows.{refusal}

@@ -8,7 +8,7 @@ use lib.Dec.{leb, eqb}
 use borrow.Author.Tests.{eq-eqb, eqb-true, eqb-false}
 use Rattle.line_rules.specs.declared.Heard.{Heard}
 use Rattle.line_rules.specs.declared.Heard.the-variants.{Nothing, Character}
-use Rattle.line_rules.specs.Sending.{on}
+use Rattle.line_rules.specs.Sending.{on, orSet}
 use Rattle.line_rules.proofs.Table.{both}
 use Rattle.link_rules.specs.declared.ReceiverHalf.{ReceiverHalf}
 use Rattle.link_rules.specs.Parts.{dropped}
@@ -28,7 +28,7 @@ use Rattle.ins2651_rules.specs.Ranges.{mode1InRange, commandInRange, reg
 use Rattle.ins2651_rules.specs.Refusals.{mode1Refusal, modeRefusal, commandRefusal, writeRefusal, pinsRefusal}
 use Rattle.ins2651_rules.specs.RegisterReads.{readRegister}
 use Rattle.ins2651_rules.specs.RegisterWrites.{synsWritten, modesWritten, stored, unless, writeRegister}
-use Rattle.ins2651_rules.specs.Pinning.{changes, orSet, pinned}
+use Rattle.ins2651_rules.specs.Pinning.{changes, pinned}
 use Rattle.ins2651_rules.specs.Ticks.{sent, transmitTick, noted, received, receiveTick}
 use Rattle.ins2651_rules.specs.Runs.{Call, Reset, Read, Write, SetPins, Transmit, Receive, Outputs, next, after}
 use Rattle.ins2651_rules.specs.Rows.{refusal}

@@ -5,6 +5,7 @@ pub mod Formats
 pub mod Refused
 pub mod InRange
 pub mod Both
+pub mod StaysStill
 pub mod Outside
 pub mod Leaves
 pub mod WritesLeave

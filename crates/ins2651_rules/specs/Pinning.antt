@@ -3,6 +3,7 @@
 use Prim.Native.Nat.{ℕ}
 use mathlib.Core.Bool.{Bool, cond, not, _||_}
 use lib.Dec.{eqb}
+use Rattle.line_rules.specs.Sending.{orSet}
 use Rattle.ins2651_rules.specs.declared.Pins.{Pins}
 use Rattle.ins2651_rules.specs.declared.Device.{Device}
 use Rattle.ins2651_rules.specs.declared.Outcome.{Outcome}
@@ -12,9 +13,6 @@ use Rattle.ins2651_rules.specs.Refusals.{pinsRefusal}
 
 abbrev pub changes : Pins → ℕ → ℕ → Bool
 changes p dsr dcd = not (eqb (p .dsr) dsr) || not (eqb (p .dcd) dcd)
-
-abbrev pub orSet : Bool → ℕ → ℕ
-orSet t x = cond t 1 x
 
 unfoldable pub pinned : Device → ℕ → ℕ → ℕ → Device
 pinned d dsr dcd cts =

@@ -5,7 +5,7 @@ use mathlib.Core.Bool.{Bool, cond, _&&_}
 use lib.Dec.{eqb}
 use Rattle.line_rules.specs.declared.Heard.{Heard}
 use Rattle.line_rules.specs.declared.Heard.the-variants.{Nothing, Character}
-use Rattle.line_rules.specs.Sending.{bit, on}
+use Rattle.line_rules.specs.Sending.{bit, on, orSet}
 use Rattle.link_rules.specs.declared.Sent.{Sent}
 use Rattle.link_rules.specs.declared.Received.{Received}
 use Rattle.link_rules.specs.Transmitting as link-transmitting
@@ -18,7 +18,6 @@ use Rattle.ins2651_rules.specs.declared.Ticked.{Ticked}
 use Rattle.ins2651_rules.specs.Shape.{withSender, withReceiver, withErrors, withEmpty, answered, refusedRead, done, refused, ticked}
 use Rattle.ins2651_rules.specs.Modes.{sendFormat, receiveFormat}
 use Rattle.ins2651_rules.specs.Conditions.{transmitEnabled, mayStart, breakOn, listening}
-use Rattle.ins2651_rules.specs.Pinning.{orSet}
 use Rattle.ins2651_rules.specs.Ranges.{settled}
 use Rattle.ins2651_rules.specs.Refusals.{levelRefusal}
 

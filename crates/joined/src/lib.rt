@@ -2,14 +2,19 @@
 // Every call takes any number in any field. A joined tick is never refused; a run of more than 65535 is, with 16, and hands the pair back
 // as given. A device out of range is taken as one just reset, but by a run of 0, which changes nothing.
 ghost use mathlib.Core.Path.{_≡_};
-ghost use Prim.Native.Nat.{_≤_};
 ghost use Rattle.joined_rules.specs.Joining;
 ghost use Rattle.joined_rules.specs.Joining.{settledPair, joinedTick, joinedTicks, ticks};
-ghost use Rattle.joined_rules.specs.Skipping.{calmTicks};
+ghost use Rattle.joined_rules.specs.TwoWays.{endsOf, wayOf, withEnds};
+ghost use Rattle.way_rules.specs.Along.{wayTicks};
+use ins2651_rules::Device;
+use ins2651_rules::Flags;
 use ins2651_rules::Ticked;
 use joined_rules::Joined;
 use joined_rules::Pair;
 use joined_rules::Ran;
+use way_rules::Ends;
+use way_rules::Faults;
+use way_rules::Way;
 
 fn settle(p: Pair) -> Pair
     ensures { λ r. ⌜ r ≡ settledPair p ⌝ }
@@ -48,47 +53,74 @@ pub fn tick(p: Pair) -> Joined
     joined_tick(settle(p))
 }
 
-// How many ticks of a pair only count: none where a look comes next, which with a factor of 1 is nearly always.
-fn calm_ticks(p: Pair) -> u16
-    ensures { λ r. ⌜ r ≡ calmTicks p ⌝ }
+// What the ticks of the way from a to b go by.
+fn ends_of(a: Device, b: Device) -> Ends
+    ensures { λ r. ⌜ r ≡ endsOf a b ⌝ }
 {
-    let looks = calm::looks(p.a) | calm::looks(p.b);
-    if looks {
-        return 0;
-    }
-    let a = calm::ticks(p.a, calm::marks(p.b));
-    if a == 0 {
-        return 0;
-    }
-    calm::least(a, calm::ticks(p.b, calm::marks(p.a)))
-}
-
-// k of them at once.
-fn skip(p: Pair, k: u16) -> Pair
-    requires { ⌜ k ≤ calmTicks p ⌝ }
-    ensures { λ r. ⌜ r ≡ joinedTicks k p ⌝ }
-{
-    if k == 0 {
-        return p;
-    }
-    Pair {
-        a: calm::skip(p.a, k),
-        b: calm::skip(p.b, k),
+    Ends {
+        ready: ins2651::may_start(a),
+        broken: ins2651::break_on(a),
+        enabled: ins2651::transmit_enabled(a),
+        live: ins2651::listening(b),
+        send: ins2651::send_format(a.registers),
+        hear: ins2651::receive_format(b.registers),
     }
 }
 
-// n joined ticks of a pair in range: those that only count at once, then the one that does more.
+// What they move.
+fn way_of(a: Device, b: Device) -> Way
+    ensures { λ r. ⌜ r ≡ wayOf a b ⌝ }
+{
+    let sender = a.sender;
+    let receiver = b.receiver;
+    Way {
+        sender: sender,
+        receiver: receiver,
+        empty: a.flags.empty,
+        faults: Faults {
+            framing: b.flags.framing,
+            overrun: b.flags.overrun,
+            parity: b.flags.parity,
+        },
+    }
+}
+
+// A device after a run of the way that leaves it and of the way that comes.
+fn with_ends(mut d: Device, out: Way, back: Way) -> Device
+    ensures { λ r. ⌜ r ≡ withEnds d out back ⌝ }
+{
+    let sender = out.sender;
+    let receiver = back.receiver;
+    let flags = Flags {
+        framing: back.faults.framing,
+        overrun: back.faults.overrun,
+        parity: back.faults.parity,
+        empty: out.empty,
+        change: d.flags.change,
+    };
+    d.sender = sender;
+    d.receiver = receiver;
+    d.flags = flags;
+    d
+}
+
+// n ticks of the way from a to b.
+fn one_way(a: Device, b: Device, n: u16) -> Way
+    ensures { λ r. ⌜ r ≡ wayTicks (endsOf a b) n (wayOf a b) ⌝ }
+{
+    way::along(way_of(a, b), ends_of(a, b), n)
+}
+
+// n joined ticks of a pair in range: n of each way.
 fn ticks_on(p: Pair, n: u16) -> Pair
     ensures { λ r. ⌜ r ≡ joinedTicks n p ⌝ }
 {
-    let mut pair = p;
-    let mut left = n;
-    while 0 < left {
-        let k = calm::least(calm_ticks(pair), left - 1);
-        pair = joined_tick(skip(pair, k)).pair;
-        left = left - k - 1;
+    let there = one_way(p.a, p.b, n);
+    let back = one_way(p.b, p.a, n);
+    Pair {
+        a: with_ends(p.a, there, back),
+        b: with_ends(p.b, back, there),
     }
-    pair
 }
 
 // n joined ticks; the ranges are checked once.

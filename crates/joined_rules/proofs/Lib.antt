@@ -7,4 +7,4 @@ pub mod Promised
 pub mod Order
 pub mod Sequence
 pub mod Concrete
-pub mod Skips
+pub mod TwoWays

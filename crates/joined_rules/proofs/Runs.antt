@@ -91,9 +91,3 @@ pub settled-ticks : (n : ℕ) (p : Pair) → 0 < n → joinedTicks n (settledPai
 settled-ticks zero p h = absurd (omega arith)
 settled-ticks (suc n) p h =
     sym (ap (λ (o : Joined). ticks n (o .pair)) (tick-is p) ∙ in-range-ticks n (joinedTick (settledPair p) .pair) (joined-in (settledPair p) (settled-both p)))
-
--- == the loop ==
-
-pub none-left : (k : ℕ) (p : Pair) → k ≤ 0 → joinedTicks k p ≡ p
-none-left zero p h = refl
-none-left (suc k) p h = absurd (omega arith)

@@ -2,4 +2,4 @@ pub mod Joining
 pub mod Rounds
 pub mod Bench
 pub mod Demand3
-pub mod Skipping
+pub mod TwoWays

@@ -1,2 +1,1 @@
-mod Branches
 mod Boundaries

@@ -28,7 +28,7 @@ fn long(x: u16) -> u32
     x as u32
 }
 
-fn number(b: bool) -> u8
+pub fn number(b: bool) -> u8
     ensures { λ r. ⌜ (r ≡ bit b) × (r ≤ 1) ⌝ }
 {
     if b { 1 } else { 0 }
@@ -69,7 +69,7 @@ pub fn half(f: Format) -> u8
 }
 
 // p: 1 with parity, else 0.
-fn parity_bits(f: Format) -> u16
+pub fn parity_bits(f: Format) -> u16
     ensures { λ r. ⌜ (r ≡ parityBits f) × (r ≤ 1) ⌝ }
 {
     wide(number(0 < f.parity))
@@ -254,7 +254,7 @@ fn quiet(r: Receiver) -> Sampled
 }
 
 // The ticks between two looks.
-fn gap(f: Format) -> u8
+pub fn gap(f: Format) -> u8
     ensures { λ r. ⌜ r ≡ f .factor - 1 ⌝ }
 {
     if f.factor == 0 {
@@ -281,7 +281,7 @@ fn weight(i: u16) -> u8
 }
 
 // A value with its data bit i.
-fn with_bit(v: u8, i: u16, x: bool) -> u8
+pub fn with_bit(v: u8, i: u16, x: bool) -> u8
     ensures { λ r. ⌜ r ≡ withBit v i x ⌝ }
 {
     if x {

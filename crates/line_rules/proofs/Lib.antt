@@ -3,6 +3,7 @@ pub mod Table
 pub mod Bits
 pub mod Bytes
 pub mod Parts
+pub mod Branches
 pub mod Ranges
 pub mod Frames
 pub mod Samples

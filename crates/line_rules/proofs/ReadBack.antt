@@ -23,12 +23,12 @@ use Rattle.line_rules.proofs.Received.{heard-at, received}
 
 -- == the number of a number's lowest bits is the number cut ==
 
-bit-eqb : (x : ℕ) → x < 2 → bit (eqb x 1) ≡ x
+pub bit-eqb : (x : ℕ) → x < 2 → bit (eqb x 1) ≡ x
 bit-eqb zero h = refl
 bit-eqb (suc zero) h = refl
 bit-eqb (suc (suc x)) h = omega arith
 
-mod-double : (c b : ℕ) → 0 < b → c % (b * 2) ≡ c % b + c / b % 2 * b
+pub mod-double : (c b : ℕ) → 0 < b → c % (b * 2) ≡ c % b + c / b % 2 * b
 mod-double c b h =
     let r : ℕ = c % b + c / b % 2 * b in
     let e : c ≡ b * 2 * (c / b / 2) + r = omega (arith, div-add-mod' c b, ap (λ (x : ℕ). x * b) (div-add-mod' (c / b) 2)) in
@@ -48,7 +48,7 @@ finds-edge : (xs : List Bool) → getD xs 0 false ≡ false → find false xs �
 finds-edge [] e = refl
 finds-edge (x ∷ xs) e = rw e
 
-same : (b : Bool) → differ b b ≡ false
+pub same : (b : Bool) → differ b b ≡ false
 same true = refl
 same false = refl
 

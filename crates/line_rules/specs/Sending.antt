@@ -16,6 +16,10 @@ bit false = 0
 abbrev pub on : ℕ → Bool
 on x = ltb 0 x
 
+-- a mark that is set where t is so, and otherwise stays as it is
+abbrev pub orSet : Bool → ℕ → ℕ
+orSet t x = cond t 1 x
+
 -- F, n and S are the fields factor, length and stop; p is 1 with parity, else 0
 abbrev pub parityBits : Format → ℕ
 parityBits f = bit (on (f .parity))

@@ -74,7 +74,7 @@ fn unload(mut s: SenderHalf) -> SenderHalf
 }
 
 // The place that follows, and 0 after a frame's last.
-fn next_place(f: Format, i: u16) -> u16
+pub fn next_place(f: Format, i: u16) -> u16
     ensures { λ r. ⌜ r ≡ nextPlace f i ⌝ }
 {
     let k = std::num::wrapping_add_u16(i, 1);
@@ -313,7 +313,8 @@ pub fn receive(r: ReceiverHalf, live: bool, f: Format, x: bool) -> Received
 
 // == the ranges ==
 
-fn is_no_format(f: Format) -> bool
+// The format of nothing: all 0.
+pub fn is_no_format(f: Format) -> bool
     ensures { λ r. ⌜ r ≡ isNoFormat f ⌝ }
 {
     (f.factor == 0) & (f.length == 0) & (f.parity == 0) & (f.even == 0) & (f.stop == 0)
@@ -422,7 +423,8 @@ fn assembly_in_range(f: Format, s: Receiver) -> bool
         & wrong_in_range(f, s.look, s.wrong)
 }
 
-fn rest_in_range(s: Receiver) -> bool
+// Nothing of a character stands in the receiver.
+pub fn rest_in_range(s: Receiver) -> bool
     ensures { λ r. ⌜ r ≡ restInRange s ⌝ }
 {
     (s.countdown == 0) & (s.value == 0) & (s.wrong == 0) & (s.look == 0)

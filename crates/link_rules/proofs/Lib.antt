@@ -2,3 +2,4 @@ pub mod SenderRange
 pub mod ReceiverRange
 pub mod Halves
 pub mod BreakAndEnd
+pub mod AtRest

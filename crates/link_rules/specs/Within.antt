@@ -61,6 +61,10 @@ assemblyInRange f s =
 abbrev pub restInRange : Receiver → Bool
 restInRange s = eqb (s .countdown) 0 && eqb (s .value) 0 && eqb (s .wrong) 0 && eqb (s .look) 0
 
+-- no character is under way: all that belongs to one is 0
+abbrev pub clear : ReceiverHalf → Bool
+clear r = isNoFormat (r .format) && restInRange (r .state)
+
 abbrev pub stateInRange : Format → Receiver → Bool
 stateInRange f s = cond (underWay s) (inRange f && assemblyInRange f s) (isNoFormat f && restInRange s)
 

@@ -10,9 +10,9 @@ use Rattle.host.proofs.Calls.{Taking}
 use Rattle.host.proofs.Again.{Lending}
 use Rattle.host.proofs.Spares.{meets-sparing}
 use Rattle.host.proofs.Promises.{searching, hears-tick, hears, searches-or-hears}
-use Rattle.calm.proofs.searches.Symbol as searches-def
-use Rattle.calm.proofs.searches.Symbol.{name as #searches}
-use Rattle.calm.proofs.searches.Met as searches-thm
+use Rattle.ins2651.proofs.searches.Symbol as searches-def
+use Rattle.ins2651.proofs.searches.Symbol.{name as #searches}
+use Rattle.ins2651.proofs.searches.Met as searches-thm
 use Rattle.host.proofs.hear_tick.Symbol as hear-tick-def
 use Rattle.host.proofs.hear_tick.Symbol.{name as #hear-tick}
 use Rattle.host.proofs.hear_tick.Met as hear-tick-thm
@@ -27,5 +27,5 @@ hear-spec 𝓤 H 𝓜 𝓖 𝓡 =
     entered 𝓤 H (tripleOf 𝓤 H (𝓖 .A) f.signature (f.spec 𝓤 H (𝓖 .A) (𝓜 .mem) (𝓡 .run)))
     (tables 𝓤 H 𝓜 𝓡 code.env .C) (tables 𝓤 H 𝓜 𝓡 code.env .Λ) #hear code.function (code.unfolded 𝓤 H 𝓜 𝓡)
     (meets-sparing 𝓤 H (𝓖 .A) (givenOf 𝓤 H 𝓜 𝓖) 1 0 tt (omega arith) searching hears-tick hears searches-or-hears (tablesOf 𝓤 H 𝓜 (tables 𝓤 H 𝓜 𝓡 code.env)) #searches #hear-tick
-    (cited 𝓤 H (Taking 𝓤 H (𝓖 .A) bool 1 searching) 𝓜 𝓡 code.env #searches searches-def.routine code.calls-calm·searches (searches-thm.met 𝓤 H 𝓜 𝓖 𝓡))
+    (cited 𝓤 H (Taking 𝓤 H (𝓖 .A) bool 1 searching) 𝓜 𝓡 code.env #searches searches-def.routine code.calls-ins2651·searches (searches-thm.met 𝓤 H 𝓜 𝓖 𝓡))
     (cited 𝓤 H (Lending 𝓤 H (𝓖 .A) 1 hears-tick) 𝓜 𝓡 code.env #hear-tick hear-tick-def.routine code.calls-host·hear-tick (hear-tick-thm.met 𝓤 H 𝓜 𝓖 𝓡)))

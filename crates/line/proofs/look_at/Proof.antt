@@ -4,7 +4,7 @@ use borrow.Author.Needs.{needs}
 use native.Mathlib.Omega.{arith}
 use mathlib.Core.Path.{sym, _∙_}
 use Rattle.line_rules.proofs.Parts.{part-data, part-parity, part-stop}
-use Rattle.line.proofs.Branches.{look-part}
+use Rattle.line_rules.proofs.Branches.{look-part}
 use Rattle.line.proofs.look_at.Statement.{statement}
 use Rattle.line.proofs.look_at.Tie as tie
 

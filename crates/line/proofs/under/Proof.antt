@@ -2,7 +2,7 @@
 -- Assumes nothing.
 use borrow.Author.Needs.{needs}
 use mathlib.Core.Path.{sym}
-use Rattle.line.proofs.Branches.{under-counts}
+use Rattle.line_rules.proofs.Branches.{under-counts}
 use Rattle.line.proofs.under.Statement.{statement}
 use Rattle.line.proofs.under.Tie as tie
 

@@ -1,0 +1,77 @@
+-- A receiving half with no character under way: it has no more than its phase, and there are ticks that leave it as it is.
+-- Assumes nothing.
+use Prim.Native.Nat.{ℕ}
+use mathlib.Core.Path.{_≡_, refl, ap, ap₂, sym, _∙_}
+use mathlib.Core.Bool.{Bool, true, false, _&&_}
+use lib.Dec.{eqb}
+use borrow.Author.Tests.{eqb-true}
+use Rattle.line_rules.specs.declared.Format.{Format}
+use Rattle.line_rules.specs.declared.Receiver.{Receiver}
+use Rattle.line_rules.specs.declared.Heard.the-variants.{Nothing}
+use Rattle.line_rules.specs.Receiving.{atRest, sample}
+use Rattle.line_rules.proofs.Table.{both}
+use Rattle.link_rules.specs.declared.ReceiverHalf.{ReceiverHalf}
+use Rattle.link_rules.specs.declared.Received.{Received}
+use Rattle.link_rules.specs.Parts.{noFormat}
+use Rattle.link_rules.specs.Within.{isNoFormat, restInRange, clear}
+use Rattle.link_rules.specs.Hearing.{receive}
+
+-- in a phase, with what it last held, unread or not
+abbrev pub resting : ℕ → ℕ → ℕ → ReceiverHalf
+resting p v u = record { state = atRest p; format = noFormat; holding = v; unread = u }
+
+-- == all that belongs to a character is 0 ==
+
+format-of : (a b c d e : ℕ) → a ≡ 0 → b ≡ 0 → c ≡ 0 → d ≡ 0 → e ≡ 0 → record { factor = a; length = b; parity = c; even = d; stop = e } ≡ noFormat
+format-of a b c d e p q r s t = rw (p, q, r, s, t)
+
+state-of : (n a b c d : ℕ) → a ≡ 0 → b ≡ 0 → c ≡ 0 → d ≡ 0 → record { phase = n; countdown = a; value = b; wrong = c; look = d } ≡ atRest n
+state-of n a b c d p q r s = rw (p, q, r, s)
+
+no-format : (f : Format) → isNoFormat f ≡ true → f ≡ noFormat
+no-format f h =
+    let a = both (eqb (f .factor) 0 && eqb (f .length) 0 && eqb (f .parity) 0 && eqb (f .even) 0) _ h in
+    let b = both (eqb (f .factor) 0 && eqb (f .length) 0 && eqb (f .parity) 0) _ (a .0) in
+    let c = both (eqb (f .factor) 0 && eqb (f .length) 0) _ (b .0) in
+    let d = both (eqb (f .factor) 0) _ (c .0) in
+    format-of (f .factor) (f .length) (f .parity) (f .even) (f .stop) (eqb-true _ _ (d .0)) (eqb-true _ _ (d .1)) (eqb-true _ _ (c .1)) (eqb-true _ _ (b .1)) (eqb-true _ _ (a .1))
+
+at-rest : (s : Receiver) → restInRange s ≡ true → s ≡ atRest (s .phase)
+at-rest s h =
+    let a = both (eqb (s .countdown) 0 && eqb (s .value) 0 && eqb (s .wrong) 0) _ h in
+    let b = both (eqb (s .countdown) 0 && eqb (s .value) 0) _ (a .0) in
+    let c = both (eqb (s .countdown) 0) _ (b .0) in
+    state-of (s .phase) (s .countdown) (s .value) (s .wrong) (s .look) (eqb-true _ _ (c .0)) (eqb-true _ _ (c .1)) (eqb-true _ _ (b .1)) (eqb-true _ _ (a .1))
+
+pub is-clear : (r : ReceiverHalf) (p : ℕ) → r .state .phase ≡ p → clear r ≡ true → r ≡ resting p (r .holding) (r .unread)
+is-clear r p e h =
+    let t = both (isNoFormat (r .format)) _ h in
+    ap₂ (λ (s : Receiver) (g : Format). record { state = s; format = g; holding = r .holding; unread = r .unread }) (at-rest (r .state) (t .1) ∙ ap atRest e) (no-format (r .format) (t .0))
+
+-- == a tick ==
+
+-- what a tick leaves that brings nothing
+abbrev pub quietly : ReceiverHalf → Received
+quietly r = record { half = r; heard = Nothing; overrun = false }
+
+-- what a tick leaves as it is: told whether receive is on and the level
+abbrev pub Stays : ℕ → Bool → Bool → Type 0
+Stays p live x = (f : Format) (v u : ℕ) → receive (resting p v u) live f x ≡ quietly (resting p v u)
+
+-- searching, and the line is 1
+pub searches-on : Stays 1 true true
+unfolding receive sample
+searches-on f v u = refl
+
+-- waiting, and the line is 0
+pub waits-on : Stays 0 true false
+unfolding receive sample
+waits-on f v u = refl
+
+-- off, and nothing to drop
+pub stays-off : (x : Bool) → Stays 0 false x
+unfolding receive
+stays-off x f v u = refl
+
+pub rest-stays : (r : ReceiverHalf) (p : ℕ) (live x : Bool) (f : Format) → Stays p live x → r ≡ resting p (r .holding) (r .unread) → receive r live f x ≡ quietly r
+rest-stays r p live x f s e = ap (λ (q : ReceiverHalf). receive q live f x) e ∙ s f (r .holding) (r .unread) ∙ ap quietly (sym e)

@@ -1,0 +1,306 @@
+-- A receiver in step with a frame stays so from look to look: whole bits pass at once.
+-- Assumes nothing.
+use Prim.Native.Nat.{ℕ, zero, suc, _+_, _*_, _-_, _^_, _/_, _%_, _≤_, _<_}
+use native.Mathlib.Nat.{add-zero, add-suc, mul-zero, pow-suc, div-add-mod', mod-lt, mod-le, mod-eq-of-lt, mul-add-mod-self-left, mul-le-mul-right, mul-le-mul-left, mul-comm, le-div-iff-mul-le, mod-one}
+use native.Mathlib.Omega.{arith}
+use mathlib.Core.Path.{_≡_, refl, ap, ap₂, sym, _∙_}
+use mathlib.Core.Bool.{Bool, true, false, cond, _&&_}
+use lib.Dec.{ltb, eqb}
+use lib.Pow.{pow-pos}
+use borrow.Author.Tests.{eqb-true, ltb-true, ltb-false, lt-ltb, le-ltb}
+use Rattle.line_rules.specs.declared.Format.{Format}
+use Rattle.line_rules.specs.declared.Receiver.{Receiver}
+use Rattle.line_rules.specs.declared.Sampled.{Sampled}
+use Rattle.line_rules.specs.Sending.{bit, on, differ, half, parityBits, frameLength, cut, parityBit, bitAt, part, parityLevel, levelOf, level, orSet}
+use Rattle.line_rules.specs.Receiving.{assembling, quiet, withBit, lookNext, parityLook, stopLook, sample}
+use Rattle.line_rules.specs.Sees.{Sees, Alike}
+use Rattle.line_rules.proofs.Parts.{part-data, part-parity}
+use Rattle.line_rules.proofs.ReadBack.{bit-eqb, mod-double, same}
+use Rattle.line_rules.proofs.Flight.{alike-sees}
+use Rattle.line_rules.proofs.Table.{both}
+use Rattle.link_rules.specs.declared.Frame.{Frame}
+use Rattle.link_rules.specs.declared.SenderHalf.{SenderHalf}
+use Rattle.link_rules.specs.declared.ReceiverHalf.{ReceiverHalf}
+use Rattle.link_rules.specs.declared.Received.{Received}
+use Rattle.link_rules.specs.declared.Sent.{Sent}
+use Rattle.link_rules.specs.Parts.{withFrame}
+use Rattle.link_rules.specs.Transmitting.{frameAt, frameTick}
+use Rattle.link_rules.specs.Hearing.{afterSample, receive}
+use Rattle.link_rules.proofs.AtRest.{quietly}
+use Rattle.link_rules.proofs.Halves.{transmit-under, receive-under}
+use Rattle.way_rules.specs.declared.Ends.{Ends}
+use Rattle.way_rules.specs.declared.Way.{Way}
+use Rattle.way_rules.specs.Along.{sent, received, sentBy, heardBy, wayTick, wayTicks}
+use Rattle.way_rules.specs.Calm.{least, placesLeft, senderCalm, senderMarks, senderSpaces, heardCalm, wayCalm, waySkipped}
+use Rattle.way_rules.specs.Leap.{lastLook, soFar, sameBits, bothBusy, inStep, flyAt, leapTicks, Ahead}
+use Rattle.way_rules.proofs.Branches.{Least, least-both, least-is, least-above, least-first, least-second}
+use Rattle.way_rules.proofs.Senders.{at, within, moves, frame-is, frame-stays, skips-frame, frame-calm}
+use Rattle.way_rules.proofs.Receivers.{looks-calm}
+use Rattle.way_rules.proofs.Ways.{skips, ticks-add}
+
+-- == the lowest bits of a number, one more ==
+
+one-more : (c i : ℕ) → c % 2 ^ i + bit (bitAt c i) * 2 ^ i ≡ c % 2 ^ suc i
+one-more c i =
+    ap (λ (x : ℕ). c % 2 ^ i + x * 2 ^ i) (bit-eqb (c / 2 ^ i % 2) (omega arith))
+    ∙ sym (mod-double c (2 ^ i) (pow-pos i))
+    ∙ ap (λ (x : ℕ). c % x) (sym (pow-suc 2 i))
+
+-- == a look ==
+
+module _ (g : Format) (c : ℕ) (byte : c < 256) where
+  abbrev flown : ℕ → ℕ → Receiver
+  flown m k = assembling k m (soFar g c m) 0
+
+  in-data : (i : ℕ) → i < g .length → withBit (soFar g c (suc i)) i (bitAt c i) ≡ soFar g c (suc (suc i))
+  in-data i h =
+      let a : least (suc i - 1) (g .length) ≡ i = least-first (suc i - 1) (g .length) (omega arith) ∙ (let q : suc i - 1 ≡ i = omega arith in q) in
+      let b : least (suc (suc i) - 1) (g .length) ≡ suc i = next (ltb (suc i) (g .length)) refl in
+      ap (λ (n : ℕ). (c % 2 ^ n + bit (bitAt c i) * 2 ^ i) % 256) a
+      ∙ ap (λ (n : ℕ). n % 256) (one-more c i)
+      ∙ mod-eq-of-lt (omega (arith, mod-le c (2 ^ suc i)))
+      ∙ ap (λ (n : ℕ). c % 2 ^ n) (sym b)
+    where
+      next : (t : Bool) → ltb (suc i) (g .length) ≡ t → least (suc (suc i) - 1) (g .length) ≡ suc i
+      next true e = least-first (suc (suc i) - 1) (g .length) (omega (arith, ltb-true (suc i) (g .length) e)) ∙ (let q : suc (suc i) - 1 ≡ suc i = omega arith in q)
+      next false e = least-second (suc (suc i) - 1) (g .length) (omega (arith, ltb-false (suc i) (g .length) e)) ∙ (let q : g .length ≡ suc i = omega (arith, ltb-false (suc i) (g .length) e) in q)
+
+  all-data : (m : ℕ) → g .length < m → soFar g c m ≡ cut g c
+  all-data m h = ap (λ (n : ℕ). c % 2 ^ n) (least-second (m - 1) (g .length) (omega arith))
+
+  none-yet : soFar g c 1 ≡ 0
+  none-yet = ap (λ (n : ℕ). c % 2 ^ n) (go (ltb 0 (g .length)) refl) ∙ mod-one c
+    where
+      go : (t : Bool) → ltb 0 (g .length) ≡ t → least 0 (g .length) ≡ 0
+      go true e = rw e
+      go false e = rw e (let q : g .length ≡ 0 = omega (arith, ltb-false 0 (g .length) e) in q)
+
+  -- a look that sees its bit, before the stop's, goes on to the next
+  looks-on : (m : ℕ) → m ≤ g .length + parityBits g → sample g (flown m 0) (levelOf g c m) ≡ quiet (flown (suc m) (g .factor - 1))
+  unfolding sample
+  looks-on zero h = ap (λ (v : ℕ). quiet (assembling (g .factor - 1) 1 v 0)) (sym none-yet)
+  looks-on (suc i) h = go (ltb i (g .length)) refl
+    where
+      go : (t : Bool) → ltb i (g .length) ≡ t → sample g (flown (suc i) 0) (levelOf g c (suc i)) ≡ quiet (flown (suc (suc i)) (g .factor - 1))
+      go true e =
+          let l : i < g .length = ltb-true i (g .length) e in
+          part-data g i _ _ _ l
+          ∙ ap (λ (x : Bool). lookNext g (suc (suc i)) (withBit (soFar g c (suc i)) i x) 0) (part-data g i _ _ _ l)
+          ∙ ap (λ (v : ℕ). lookNext g (suc (suc i)) v 0) (in-data i l)
+      go false e =
+          let l : g .length ≤ i = ltb-false i (g .length) e in
+          part-parity g i _ _ _ l (omega arith)
+          ∙ ap₂ (λ (x : Bool) (v : ℕ). lookNext g (suc (suc i)) v (bit (differ x (parityBit g v)))) (part-parity g i _ _ _ l (omega arith)) (all-data (suc i) (omega arith))
+          ∙ ap₂ (λ (x : Bool) (v : ℕ). lookNext g (suc (suc i)) v (bit x)) (same (parityBit g (cut g c))) (sym (all-data (suc (suc i)) (omega arith)))
+
+-- == the way ==
+
+-- the half that flies
+abbrev flies : Way → ℕ → ℕ → ReceiverHalf
+flies w m k = flyAt w 0 m k .receiver
+
+module _ (e : Ends) (w : Way) (live : e .live ≡ true) (byte : w .sender .frame .character < 256) (pos : 0 < w .receiver .format .factor)
+    (alike : Alike (w .sender .frame .format) (w .receiver .format)) where
+  abbrev g : Format
+  g = w .receiver .format
+
+  abbrev f : Format
+  f = w .sender .frame .format
+
+  abbrev c : ℕ
+  c = w .sender .frame .character
+
+  -- the places that are left after place i
+  abbrev left : ℕ → ℕ
+  left i = placesLeft (frameAt (w .sender .frame) i)
+
+  -- up to the look
+  gap : (i m k : ℕ) → on i ≡ true → k ≤ left i → wayTicks e k (flyAt w i m k) ≡ flyAt w (i + k) m 0
+  unfolding waySkipped wayCalm
+  gap i m zero t h = ap (λ (j : ℕ). flyAt w j m 0) (sym (add-zero i))
+  gap i m (suc k) t h =
+      sym (skips e (suc k) (flyAt w i m (suc k)) (omega arith) calm)
+      ∙ ap₂ (λ (s : SenderHalf) (n : ℕ). record { sender = s; receiver = flies w m n; empty = w .empty; faults = w .faults })
+      (skips-frame e (at (w .sender) i) (suc k) t ∙ ap (at (w .sender)) (moves (frameAt (w .sender .frame) i) k h))
+      (let q : suc k - suc k ≡ 0 = omega arith in q)
+    where
+      calm : suc k ≤ wayCalm e (flyAt w i m (suc k))
+      calm =
+          least-above (heardCalm e (flyAt w i m (suc k))) (senderCalm e (at (w .sender) i)) (suc k)
+          (omega (arith, looks-calm (flies w m (suc k)) (e .live) (senderMarks e (at (w .sender) i)) (senderSpaces e (at (w .sender) i)) live refl))
+          (omega (arith, frame-calm e (at (w .sender) i) t))
+
+  -- what the look's sample brings
+  hears : (m : ℕ) → m ≤ g .length + parityBits g → receive (flies w m 0) (e .live) (e .hear) (levelOf g c m) ≡ quietly (flies w (suc m) (g .factor - 1))
+  hears m h =
+      ap (λ (b : Bool). receive (flies w m 0) b (e .hear) (levelOf g c m)) live
+      ∙ receive-under (flies w m 0) (e .hear) (levelOf g c m) refl
+      ∙ ap (afterSample (flies w m 0) g) (looks-on g c byte m h)
+
+  -- the look itself
+  look : (i m : ℕ) → on i ≡ true → i ≡ half g + g .factor * m → m ≤ g .length + parityBits g → 1 ≤ left i
+      → wayTick e (flyAt w i m 0) ≡ flyAt w (i + 1) (suc m) (g .factor - 1)
+  unfolding wayTick
+  look i m t p h l =
+      let s : SenderHalf = at (w .sender) i in
+      let sees : level f c i ≡ levelOf g c m = ap (level f c) p ∙ alike-sees f g c pos alike .looks m (omega arith) in
+      ap (λ (o : Sent). heardBy (sentBy e (flyAt w i m 0) o) (received e (flyAt w i m 0) (o .level))) (transmit-under s (e .ready) (e .broken) (e .send) t)
+      ∙ ap (λ (x : Bool). heardBy (sentBy e (flyAt w i m 0) (frameTick s (s .frame) false)) (received e (flyAt w i m 0) x)) sees
+      ∙ ap (heardBy (sentBy e (flyAt w i m 0) (frameTick s (s .frame) false))) (hears m h)
+      ∙ ap₂ (λ (q : Frame) (z : Bool). record { sender = withFrame s q; receiver = flies w (suc m) (g .factor - 1); empty = orSet (z && e .enabled) (w .empty); faults = w .faults })
+      (frame-is s l) (frame-stays s l)
+
+  -- a whole bit
+  one-bit : (i m : ℕ) → on i ≡ true → i ≡ half g + g .factor * m → m ≤ g .length + parityBits g → g .factor ≤ left i
+      → wayTicks e (g .factor) (flyAt w i m 0) ≡ flyAt w (i + g .factor) (suc m) 0
+  one-bit i m t p h l =
+      let b = within (frameAt (w .sender .frame) i) (g .factor - 1) (omega arith) in
+      let d = least-both (frameLength f) 65536 in
+      ap (λ (k : ℕ). wayTicks e k (flyAt w i m 0)) (let q : g .factor ≡ suc (g .factor - 1) = omega arith in q)
+      ∙ ap (wayTicks e (g .factor - 1)) (look i m t p h (omega arith))
+      ∙ gap (i + 1) (suc m) (g .factor - 1) (lt-ltb 0 (i + 1) (omega arith)) (omega arith)
+      ∙ ap (λ (j : ℕ). flyAt w j (suc m) 0) (let q : i + 1 + (g .factor - 1) ≡ i + g .factor = omega arith in q)
+
+  -- q of them
+  bits : (q i m : ℕ) → on i ≡ true → i ≡ half g + g .factor * m → m + q ≤ lastLook g → g .factor * q ≤ left i
+      → wayTicks e (g .factor * q) (flyAt w i m 0) ≡ flyAt w (i + g .factor * q) (m + q) 0
+  bits zero i m t p h l =
+      ap (λ (k : ℕ). wayTicks e k (flyAt w i m 0)) (mul-zero (g .factor))
+      ∙ ap₂ (λ (j n : ℕ). flyAt w j n 0) (let r : i ≡ i + g .factor * 0 = omega arith in r) (sym (add-zero m))
+  bits (suc q) i m t p h l =
+      ap (λ (k : ℕ). wayTicks e k (flyAt w i m 0)) (let r : g .factor * suc q ≡ g .factor + g .factor * q = omega arith in r)
+      ∙ ticks-add e (g .factor) (g .factor * q) (flyAt w i m 0)
+      ∙ ap (wayTicks e (g .factor * q)) (one-bit i m t p (omega arith) (omega arith))
+      ∙ bits q (i + g .factor) (suc m) (lt-ltb 0 (i + g .factor) (omega arith)) (omega arith) (omega arith) (omega arith)
+      ∙ ap₂ (λ (j n : ℕ). flyAt w j n 0) (let r : i + g .factor + g .factor * q ≡ i + g .factor * suc q = omega arith in r) (let r : suc m + q ≡ m + suc q = omega arith in r)
+
+-- == the leap ==
+
+in-step-is : (w : Way) → bothBusy w ≡ true → inStep w ≡ true → w ≡ flyAt w (w .sender .frame .place) (w .receiver .state .look) (w .receiver .state .countdown)
+unfolding inStep
+in-step-is w b h =
+    let placed : Bool = eqb (w .sender .frame .place + w .receiver .state .countdown) (half (w .receiver .format) + w .receiver .format .factor * w .receiver .state .look) in
+    let x = both (sameBits (w .sender .frame .format) (w .receiver .format) && placed && eqb (w .receiver .state .wrong) 0) (eqb (w .receiver .state .value) (soFar (w .receiver .format) (w .sender .frame .character) (w .receiver .state .look))) h in
+    let y = both (sameBits (w .sender .frame .format) (w .receiver .format) && placed) (eqb (w .receiver .state .wrong) 0) (x .0) in
+    let p = both (on (w .sender .frame .place)) (eqb (w .receiver .state .phase) 2) b in
+    let W : ℕ → ℕ → ℕ → Way = λ n v z.
+    record {
+      sender = w .sender;
+      receiver = record {
+        state = record { phase = n; countdown = w .receiver .state .countdown; value = v; wrong = z; look = w .receiver .state .look };
+        format = w .receiver .format;
+        holding = w .receiver .holding;
+        unread = w .receiver .unread;
+      };
+      empty = w .empty;
+      faults = w .faults;
+    } in
+    ap (λ (n : ℕ). W n (w .receiver .state .value) (w .receiver .state .wrong)) (eqb-true (w .receiver .state .phase) 2 (p .1))
+    ∙ ap (λ (v : ℕ). W 2 v (w .receiver .state .wrong)) (eqb-true (w .receiver .state .value) (soFar (w .receiver .format) (w .sender .frame .character) (w .receiver .state .look)) (x .1))
+    ∙ ap (W 2 (soFar (w .receiver .format) (w .sender .frame .character) (w .receiver .state .look))) (eqb-true (w .receiver .state .wrong) 0 (y .1))
+
+alike-is : (f g : Format) → sameBits f g ≡ true → Alike f g
+alike-is f g h =
+    let x = both (eqb (f .factor) (g .factor) && eqb (f .length) (g .length) && eqb (f .parity) (g .parity)) _ h in
+    let y = both (eqb (f .factor) (g .factor) && eqb (f .length) (g .length)) _ (x .0) in
+    let z = both (eqb (f .factor) (g .factor)) _ (y .0) in
+    record { factor = eqb-true _ _ (z .0); length = eqb-true _ _ (z .1); parity = ap on (eqb-true (f .parity) (g .parity) (y .1)); kind = λ e. ap on (eqb-true (f .even) (g .even) (x .1)) }
+
+step-parts : (w : Way) → inStep w ≡ true
+    → (sameBits (w .sender .frame .format) (w .receiver .format) ≡ true)
+    × (eqb (w .sender .frame .place + w .receiver .state .countdown) (half (w .receiver .format) + w .receiver .format .factor * w .receiver .state .look) ≡ true)
+unfolding inStep
+step-parts w step =
+    let x = both _ (eqb (w .receiver .state .value) (soFar (w .receiver .format) (w .sender .frame .character) (w .receiver .state .look))) step in
+    let y = both _ (eqb (w .receiver .state .wrong) 0) (x .0) in
+    both (sameBits (w .sender .frame .format) (w .receiver .format)) _ (y .0)
+
+-- to the look q after the next
+pub leaps : (e : Ends) (w : Way) (q : ℕ) → e .live ≡ true → w .sender .frame .character < 256 → bothBusy w ≡ true → inStep w ≡ true
+    → Ahead w (placesLeft (w .sender .frame)) q
+    → wayTicks e (leapTicks w q) w ≡ flyAt w (w .sender .frame .place + leapTicks w q) (w .receiver .state .look + q) 0
+leaps e w q live byte busy step a =
+    let i : ℕ = w .sender .frame .place in
+    let k : ℕ = w .receiver .state .countdown in
+    let m : ℕ = w .receiver .state .look in
+    let F : ℕ = w .receiver .format .factor in
+    let t = both (on i) (eqb (w .receiver .state .phase) 2) busy .0 in
+    let d = least-both (frameLength (w .sender .frame .format)) 65536 in
+    ap (wayTicks e (leapTicks w q)) (in-step-is w busy step)
+    ∙ ticks-add e k (F * q) (flyAt w i m k)
+    ∙ ap (wayTicks e (F * q)) (gap e w live byte (a .some) alike i m k t (omega (arith, a .ticks)))
+    ∙ bits e w live byte (a .some) alike q (i + k) m (lt-ltb 0 (i + k) (omega (arith, ltb-true 0 i t))) placed (a .looks) (omega (arith, a .ticks))
+    ∙ ap (λ (j : ℕ). flyAt w j (m + q) 0) (let r : i + k + F * q ≡ i + (k + F * q) = omega arith in r)
+  where
+    alike : Alike (w .sender .frame .format) (w .receiver .format)
+    alike = alike-is _ _ (step-parts w step .0)
+
+    placed : w .sender .frame .place + w .receiver .state .countdown ≡ half (w .receiver .format) + w .receiver .format .factor * w .receiver .state .look
+    placed = eqb-true _ _ (step-parts w step .1)
+
+-- == the code's ways ==
+
+pub leapt-is : (w : Way) (i m v : ℕ) → w .receiver .state .phase ≡ 2 → w .receiver .state .wrong ≡ 0 → v ≡ soFar (w .receiver .format) (w .sender .frame .character) m
+    → record {
+      sender = at (w .sender) i;
+      receiver = record {
+        state = record { phase = w .receiver .state .phase; countdown = 0; value = v; wrong = w .receiver .state .wrong; look = m };
+        format = w .receiver .format;
+        holding = w .receiver .holding;
+        unread = w .receiver .unread;
+      };
+      empty = w .empty;
+      faults = w .faults;
+    }
+    ≡ flyAt w i m 0
+leapt-is w i m v p z e =
+    let W : ℕ → ℕ → ℕ → Way = λ n v z.
+    record {
+      sender = at (w .sender) i;
+      receiver = record {
+        state = record { phase = n; countdown = 0; value = v; wrong = z; look = m };
+        format = w .receiver .format;
+        holding = w .receiver .holding;
+        unread = w .receiver .unread;
+      };
+      empty = w .empty;
+      faults = w .faults;
+    } in
+    ap (λ (n : ℕ). W n v (w .receiver .state .wrong)) p
+    ∙ ap (λ (x : ℕ). W 2 x (w .receiver .state .wrong)) e
+    ∙ ap (W 2 (soFar (w .receiver .format) (w .sender .frame .character) m)) z
+
+-- q looks ahead in x ticks or fewer
+pub looks-fit : (F wait room x q : ℕ) → 0 < F → wait ≤ room → x ≡ (room - wait) / F → q ≤ x → wait + F * q ≤ room
+looks-fit F wait room x q pos h e l =
+    let d : q * F ≤ room - wait = le-div-iff-mul-le pos .0 (omega arith) in
+    omega (arith, mul-comm F q)
+
+-- a leap in the frame's places and in a room
+pub record Fits (w : Way) (room q k : ℕ) : Type 0 where
+  pub ahead : Ahead w (placesLeft (w .sender .frame)) q
+  pub within : k ≤ room
+  pub placed : w .sender .frame .place + k ≤ 65535
+  pub looked : w .receiver .state .look + q ≤ 65535
+
+pub leap-fits : (w : Way) (p room r q k : ℕ) → p ≡ placesLeft (w .sender .frame) → r ≡ least p room → 0 < q → Ahead w r q → k ≡ leapTicks w q → Fits w room q k
+leap-fits w p room r q k e n z a s =
+    let b = least-is p room r n in
+    let d = least-both (frameLength (w .sender .frame .format)) 65536 in
+    let one : w .receiver .format .factor * 1 ≤ w .receiver .format .factor * q = mul-le-mul-left (w .receiver .format .factor) z in
+    let some : 1 ≤ leapTicks w q = omega (arith, one, a .some) in
+    let left : leapTicks w q ≤ placesLeft (w .sender .frame) = omega (arith, a .ticks, b .first, e) in
+    record {
+      ahead = record { some = a .some; looks = a .looks; few = a .few; ticks = left };
+      within = omega (arith, a .ticks, b .second, s);
+      placed = omega (arith, d .second, left, some, s);
+      looked = omega (arith, a .few);
+    }
+
+-- what a receiver in step has besides
+pub in-step-has : (w : Way) → inStep w ≡ true → w .receiver .state .wrong ≡ 0
+unfolding inStep
+in-step-has w h =
+    let placed : Bool = eqb (w .sender .frame .place + w .receiver .state .countdown) (half (w .receiver .format) + w .receiver .format .factor * w .receiver .state .look) in
+    let x = both (sameBits (w .sender .frame .format) (w .receiver .format) && placed && eqb (w .receiver .state .wrong) 0) _ h in
+    eqb-true (w .receiver .state .wrong) 0 (both (sameBits (w .sender .frame .format) (w .receiver .format) && placed) _ (x .0) .1)

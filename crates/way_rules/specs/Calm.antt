@@ -1,0 +1,110 @@
+-- Ticks of a way that only count: a frame holds each level for F ticks, a receiver looks once in F, a guard runs down and a break holds its level,
+-- so that most ticks move a place, a countdown or a guard by one and nothing else; many of those can be done at once.
+-- Assumes nothing.
+use Prim.Native.Nat.{ℕ, suc, _+_, _-_, _%_}
+use mathlib.Core.Bool.{Bool, cond, not, _&&_}
+use lib.Dec.{ltb, leb, eqb}
+use Rattle.line_rules.specs.declared.Format.{Format}
+use Rattle.line_rules.specs.declared.Receiver.{Receiver}
+use Rattle.line_rules.specs.Sending.{on, frameLength}
+use Rattle.link_rules.specs.declared.Frame.{Frame}
+use Rattle.link_rules.specs.declared.SenderHalf.{SenderHalf}
+use Rattle.link_rules.specs.declared.ReceiverHalf.{ReceiverHalf}
+use Rattle.link_rules.specs.Parts.{withFrame, withGuard}
+use Rattle.link_rules.specs.Transmitting.{frameAt, transmit}
+use Rattle.link_rules.specs.Within.{clear}
+use Rattle.way_rules.specs.declared.Ends.{Ends}
+use Rattle.way_rules.specs.declared.Way.{Way}
+
+abbrev pub least : ℕ → ℕ → ℕ
+least m n = cond (ltb m n) m n
+
+-- a half that stays as it is does so for longer than any run
+abbrev pub endless : Bool → ℕ
+endless t = cond t 65535 0
+
+-- == the sender ==
+
+-- a break is sent while no frame is under way
+abbrev pub breaks : Ends → Bool
+breaks e = e .ready && e .broken
+
+-- the places of a frame after this one, in 16 bits: the tick of the last ends the frame, and does more than count
+abbrev pub placesLeft : Frame → ℕ
+placesLeft g = least (frameLength (g .format)) 65536 - suc (g .place)
+
+-- how many ticks of the sender only count: within a frame those before its last; a break whose guard stands; a guard that runs down; and
+-- for ever where nothing waits that may start
+unfoldable pub senderCalm : Ends → SenderHalf → ℕ
+senderCalm e s =
+    cond (on (s .frame .place)) (placesLeft (s .frame))
+    (cond (breaks e) (endless (eqb (s .guard) (e .send .factor)))
+    (cond (on (s .guard)) (s .guard) (endless (not (e .ready && on (s .full))))))
+
+-- the last S ticks of a frame are its stop; F is not 0 in a format of document 01
+abbrev pub stopping : Frame → Bool
+stopping g = on (g .format .factor) && leb (frameLength (g .format)) (g .place + g .format .stop)
+
+-- the ticks of a bit from a place on
+abbrev pub bitLeft : Format → ℕ → ℕ
+bitLeft f i = f .factor - i % f .factor
+
+-- the level that it sends next ..
+abbrev pub senderLevel : Ends → SenderHalf → Bool
+senderLevel e s = transmit s (e .ready) (e .broken) (e .send) .level
+
+-- .. and for how many ticks that level stays, as long as they only count
+unfoldable pub senderHolds : Ends → SenderHalf → ℕ
+senderHolds e s = cond (on (s .frame .place)) (bitLeft (s .frame .format) (s .frame .place)) (cond (breaks e) 65535 (cond (on (s .guard)) (s .guard) 65535))
+
+-- the ticks that send 1 ..
+unfoldable pub senderMarks : Ends → SenderHalf → ℕ
+senderMarks e s = cond (senderLevel e s) (senderHolds e s) 0
+
+-- .. or 0
+unfoldable pub senderSpaces : Ends → SenderHalf → ℕ
+senderSpaces e s = cond (senderLevel e s) 0 (senderHolds e s)
+
+-- what k ticks that only count leave of it
+unfoldable pub senderSkipped : Ends → ℕ → SenderHalf → SenderHalf
+senderSkipped e k s =
+    cond (on (s .frame .place)) (withFrame s (frameAt (s .frame) ((s .frame .place + k) % 65536)))
+    (cond (breaks e) s (withGuard s (s .guard - k)))
+
+-- == the receiver ==
+
+-- one that searches finds no 0 while the line is 1, and one that waits no 1 while it is 0
+abbrev pub stays : Receiver → ℕ → ℕ → ℕ
+stays s marks spaces = cond (eqb (s .phase) 1) marks (cond (eqb (s .phase) 0) spaces 0)
+
+-- how many ticks of the receiver only count, told whether receive is on and for how many ticks the line is 1, or 0: the countdown to its next
+-- look. One that is off drops nothing
+unfoldable pub receiverCalm : ReceiverHalf → Bool → ℕ → ℕ → ℕ
+receiverCalm r live marks spaces =
+    cond live
+    (cond (eqb (r .state .phase) 2) (r .state .countdown) (cond (clear r) (stays (r .state) marks spaces) 0))
+    (endless (eqb (r .state .phase) 0 && clear r))
+
+abbrev pub lowered : Receiver → ℕ → Receiver
+lowered s k = record { phase = s .phase; countdown = s .countdown - k; value = s .value; wrong = s .wrong; look = s .look }
+
+-- what k ticks that only count leave of it; the countdown of one that is not under way is 0
+abbrev pub receiverSkipped : ℕ → ReceiverHalf → ReceiverHalf
+receiverSkipped k r = record { state = lowered (r .state) k; format = r .format; holding = r .holding; unread = r .unread }
+
+-- == the way ==
+
+-- its receiver has a look at the next tick, which is not calm
+abbrev pub looks : Way → Bool
+looks w = eqb (w .receiver .state .phase) 2 && eqb (w .receiver .state .countdown) 0
+
+abbrev pub heardCalm : Ends → Way → ℕ
+heardCalm e w = receiverCalm (w .receiver) (e .live) (senderMarks e (w .sender)) (senderSpaces e (w .sender))
+
+-- how many ticks only count: those that do in both halves
+unfoldable pub wayCalm : Ends → Way → ℕ
+wayCalm e w = least (heardCalm e w) (senderCalm e (w .sender))
+
+-- what k of them leave
+unfoldable pub waySkipped : Ends → ℕ → Way → Way
+waySkipped e k w = record { sender = senderSkipped e k (w .sender); receiver = receiverSkipped k (w .receiver); empty = w .empty; faults = w .faults }
