@@ -17,7 +17,7 @@ use Rattle.link_rules.specs.Parts.{withGuard}
 use Rattle.link_rules.specs.Transmitting.{idleTick, transmit}
 use Rattle.link_rules.specs.Hearing.{receive}
 use Rattle.link_rules.specs.Within.{receiverInRange, clear}
-use Rattle.link_rules.proofs.AtRest.{is-clear, searches-on, rest-stays}
+use Rattle.link_rules.proofs.AtRest.{is-clear, rests-on, rest-stays}
 use Rattle.ins2651_rules.specs.declared.Device.{Device}
 use Rattle.ins2651_rules.specs.Shape.{ticked}
 use Rattle.ins2651_rules.specs.Modes.{sendFormat, receiveFormat}
@@ -63,7 +63,7 @@ module _ (d : Device) (h : inRange d ≡ true) (x : ℕ) where
       let f : Format = receiveFormat (d .registers) in
       ap (receivedBy d)
       (ap₂ (λ (b y : Bool). receive (d .receiver) b f y) (u .1) (u .0)
-      ∙ rest-stays (d .receiver) 1 true true f searches-on (is-clear (d .receiver) 1 p (searching-clear (d .receiver) (parts d h .receiver) p)))
+      ∙ rest-stays (d .receiver) 1 true true f (rests-on true) (is-clear (d .receiver) 1 p (searching-clear (d .receiver) (parts d h .receiver) p)))
 
   -- both ticks of it
   pub still-stays : still d x ≡ true → bothTicks d (on x) ≡ ticked 1 d

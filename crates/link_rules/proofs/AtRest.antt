@@ -8,6 +8,7 @@ use borrow.Author.Tests.{eqb-true}
 use Rattle.line_rules.specs.declared.Format.{Format}
 use Rattle.line_rules.specs.declared.Receiver.{Receiver}
 use Rattle.line_rules.specs.declared.Heard.the-variants.{Nothing}
+use Rattle.line_rules.specs.Sending.{bit}
 use Rattle.line_rules.specs.Receiving.{atRest, sample}
 use Rattle.line_rules.proofs.Table.{both}
 use Rattle.link_rules.specs.declared.ReceiverHalf.{ReceiverHalf}
@@ -58,15 +59,11 @@ quietly r = record { half = r; heard = Nothing; overrun = false }
 abbrev pub Stays : ℕ → Bool → Bool → Type 0
 Stays p live x = (f : Format) (v u : ℕ) → receive (resting p v u) live f x ≡ quietly (resting p v u)
 
--- searching, and the line is 1
-pub searches-on : Stays 1 true true
+-- the line is at the level of its phase: it waits and hears a 0, or searches and hears a 1
+pub rests-on : (x : Bool) → Stays (bit x) true x
 unfolding receive sample
-searches-on f v u = refl
-
--- waiting, and the line is 0
-pub waits-on : Stays 0 true false
-unfolding receive sample
-waits-on f v u = refl
+rests-on true f v u = refl
+rests-on false f v u = refl
 
 -- off, and nothing to drop
 pub stays-off : (x : Bool) → Stays 0 false x

@@ -2,7 +2,7 @@
 // only count. Document 01, "Sending" and "Receiving", by joined ticks.
 // Every call takes any number in any field: specs/ says what each answers, inside the range and outside.
 ghost use mathlib.Core.Path.{_≡_};
-ghost use mathlib.Core.Bool.{false, cond};
+ghost use mathlib.Core.Bool.{false};
 ghost use Prim.Native.Nat.{_+_, _*_, _-_, _^_, _%_, _≤_, _<_};
 ghost use Rattle.line_rules.specs.Sending.{half, orSet};
 ghost use Rattle.line_rules.specs.Receiving.{under, stopLook, lookAt};
@@ -11,7 +11,7 @@ ghost use Rattle.link_rules.specs.Within;
 ghost use Rattle.way_rules.specs.Along.{sent, received, sentBy, heardBy, heardAs, withoutFrame, withMark, resting, assembled, tuned, wayTick, wayTicks};
 ghost use Rattle.way_rules.specs.Calm;
 ghost use Rattle.way_rules.specs.Leap.{lastLook, soFar, sameBits, bothBusy, inStep, flyAt, leapTicks, Ahead, Leaps, Moves};
-ghost use Rattle.way_rules.specs.Calm.{placesLeft, senderCalm, bitLeft, senderHolds, senderSkipped, receiverCalm, wayCalm, waySkipped};
+ghost use Rattle.way_rules.specs.Calm.{placesLeft, senderCalm, bitLeft, senderHolds, senderKeeps, senderSkipped, heardCalm, wayCalm, waySkipped};
 use line_rules::Format;
 use link_rules::Frame;
 use link_rules::ReceiverHalf;
@@ -30,26 +30,6 @@ fn or_set(t: bool, x: u8) -> u8
 
 // The level of the sender's next tick. A frame in its stop needs no division.
 fn level_now(e: Ends, s: SenderHalf) -> bool
-    ensures { λ r. ⌜ r ≡ transmit s (e .ready) (e .broken) (e .send) .level ⌝ }
-{
-    let g = s.frame;
-    if 0 < g.place {
-        if stopping(g) {
-            return true;
-        }
-        return line::level(g.format, g.character, g.place);
-    }
-    if breaks(e) {
-        return false;
-    }
-    if 0 < s.guard {
-        return true;
-    }
-    !(e.ready & (0 < s.full))
-}
-
-// The same for the calm ticks: a function with one call site is inlined, and one with two is not.
-fn level_held(e: Ends, s: SenderHalf) -> bool
     ensures { λ r. ⌜ r ≡ transmit s (e .ready) (e .broken) (e .send) .level ⌝ }
 {
     let g = s.frame;
@@ -393,17 +373,14 @@ fn sender_holds(e: Ends, s: SenderHalf) -> u16
     65535
 }
 
-// A count, or none.
-fn only(t: bool, n: u16) -> u16
-    ensures { λ r. ⌜ r ≡ cond t n 0 ⌝ }
+// For how many ticks the line is at the level p: none where it sends the other.
+fn sender_keeps(e: Ends, s: SenderHalf, p: u8) -> u16
+    ensures { λ r. ⌜ r ≡ senderKeeps e s p ⌝ }
 {
-    if t { n } else { 0 }
-}
-
-fn none_if(t: bool, n: u16) -> u16
-    ensures { λ r. ⌜ r ≡ cond t 0 n ⌝ }
-{
-    if t { 0 } else { n }
+    if p == line::number(level_now(e, s)) {
+        return sender_holds(e, s);
+    }
+    0
 }
 
 fn sender_skipped(e: Ends, k: u16, mut s: SenderHalf) -> SenderHalf
@@ -429,27 +406,23 @@ fn clear(r: ReceiverHalf) -> bool
     link::is_no_format(r.format) & link::rest_in_range(r.state)
 }
 
-fn receiver_calm(r: ReceiverHalf, live: bool, marks: u16, spaces: u16) -> u16
-    ensures { λ n. ⌜ n ≡ receiverCalm r live marks spaces ⌝ }
+// How many ticks of the receiver only count, by the line that it hears.
+fn heard_calm(e: Ends, w: Way) -> u16
+    ensures { λ n. ⌜ n ≡ heardCalm e w ⌝ }
 {
-    let s = r.state;
+    let live = e.live;
+    let phase = w.receiver.state.phase;
     if live {
-        if s.phase == 2 {
-            return s.countdown as u16;
+        if phase == 2 {
+            return w.receiver.state.countdown as u16;
         }
-        let rests = clear(r);
+        let rests = clear(w.receiver);
         if rests {
-            if s.phase == 1 {
-                return marks;
-            }
-            if s.phase == 0 {
-                return spaces;
-            }
-            return 0;
+            return sender_keeps(e, w.sender, phase);
         }
         return 0;
     }
-    endless((s.phase == 0) & clear(r))
+    endless((phase == 0) & clear(w.receiver))
 }
 
 // Whether the receiver looks at the next tick: the quickest sign that this is not calm.
@@ -470,17 +443,7 @@ fn calm(e: Ends, w: Way) -> u16
     if sends == 0 {
         return 0;
     }
-    let level = level_held(e, w.sender);
-    let holds = sender_holds(e, w.sender);
-    least(
-        receiver_calm(
-            w.receiver,
-            e.live,
-            only(level, holds),
-            none_if(level, holds),
-        ),
-        sends,
-    )
+    least(heard_calm(e, w), sends)
 }
 
 fn skipped(e: Ends, k: u16, mut w: Way) -> Way

@@ -31,7 +31,7 @@ use Rattle.link_rules.proofs.Halves.{transmit-under, receive-under}
 use Rattle.way_rules.specs.declared.Ends.{Ends}
 use Rattle.way_rules.specs.declared.Way.{Way}
 use Rattle.way_rules.specs.Along.{sent, received, sentBy, heardBy, wayTick, wayTicks}
-use Rattle.way_rules.specs.Calm.{least, placesLeft, senderCalm, senderMarks, senderSpaces, heardCalm, wayCalm, waySkipped}
+use Rattle.way_rules.specs.Calm.{least, placesLeft, senderCalm, senderKeeps, heardCalm, wayCalm, waySkipped}
 use Rattle.way_rules.specs.Leap.{lastLook, soFar, sameBits, bothBusy, inStep, flyAt, leapTicks, Ahead}
 use Rattle.way_rules.proofs.Branches.{Least, least-both, least-is, least-above, least-first, least-second}
 use Rattle.way_rules.proofs.Senders.{at, within, moves, frame-is, frame-stays, skips-frame, frame-calm}
@@ -127,7 +127,7 @@ module _ (e : Ends) (w : Way) (live : e .live ≡ true) (byte : w .sender .frame
       calm : suc k ≤ wayCalm e (flyAt w i m (suc k))
       calm =
           least-above (heardCalm e (flyAt w i m (suc k))) (senderCalm e (at (w .sender) i)) (suc k)
-          (omega (arith, looks-calm (flies w m (suc k)) (e .live) (senderMarks e (at (w .sender) i)) (senderSpaces e (at (w .sender) i)) live refl))
+          (omega (arith, looks-calm (flies w m (suc k)) (e .live) (senderKeeps e (at (w .sender) i) 2) live refl))
           (omega (arith, frame-calm e (at (w .sender) i) t))
 
   -- what the look's sample brings

@@ -7,14 +7,16 @@ use mathlib.Core.Bool.{Bool, true, false, cond, _&&_}
 use lib.Dec.{eqb}
 use borrow.Author.Tests.{eqb-true, eq-eqb, ne-eqb}
 use Rattle.line_rules.specs.declared.Format.{Format}
+use Rattle.line_rules.specs.Sending.{bit}
 use Rattle.line_rules.specs.Receiving.{assembling, sample}
+use Rattle.line_rules.proofs.Choice.{each}
 use Rattle.link_rules.specs.declared.ReceiverHalf.{ReceiverHalf}
 use Rattle.link_rules.specs.Parts.{noFormat}
 use Rattle.link_rules.specs.Within.{clear}
 use Rattle.link_rules.specs.Hearing.{receive}
 use Rattle.way_rules.specs.Calm.{receiverCalm, receiverSkipped}
 use Rattle.line_rules.proofs.Table.{both}
-use Rattle.link_rules.proofs.AtRest.{resting, quietly, is-clear, Stays, searches-on, waits-on, stays-off, rest-stays}
+use Rattle.link_rules.proofs.AtRest.{resting, quietly, is-clear, Stays, rests-on, stays-off, rest-stays}
 use Rattle.way_rules.proofs.Senders.{endless-so}
 
 -- between two looks, whatever the sample
@@ -27,24 +29,18 @@ between c m v w g f h u x = refl
 clear-kept : (r : ReceiverHalf) (p k : ℕ) → r ≡ resting p (r .holding) (r .unread) → receiverSkipped k r ≡ r
 clear-kept r p k e = ap (receiverSkipped k) e ∙ ap (λ (c : ℕ). record { state = record { phase = p; countdown = c; value = 0; wrong = 0; look = 0 }; format = noFormat; holding = r .holding; unread = r .unread }) (let z : 0 - k ≡ 0 = omega arith in z) ∙ sym e
 
-module _ (r : ReceiverHalf) (live : Bool) (marks spaces : ℕ) where
+module _ (r : ReceiverHalf) (live : Bool) (keeps : ℕ) where
   -- by what it does
-  by-phase : {P : Type 0} → 1 ≤ receiverCalm r live marks spaces
-      → (live ≡ true → r .state .phase ≡ 2 → receiverCalm r live marks spaces ≡ r .state .countdown → P)
-      → (live ≡ true → receiverCalm r live marks spaces ≡ marks → r ≡ resting 1 (r .holding) (r .unread) → P)
-      → (live ≡ true → receiverCalm r live marks spaces ≡ spaces → r ≡ resting 0 (r .holding) (r .unread) → P)
+  by-phase : {P : Type 0} → 1 ≤ receiverCalm r live keeps
+      → (live ≡ true → r .state .phase ≡ 2 → receiverCalm r live keeps ≡ r .state .countdown → P)
+      → (live ≡ true → receiverCalm r live keeps ≡ keeps → r ≡ resting (r .state .phase) (r .holding) (r .unread) → P)
       → (live ≡ false → r ≡ resting 0 (r .holding) (r .unread) → P)
       → P
   unfolding receiverCalm
-  by-phase {P} h looks searching waiting off = go live refl
+  by-phase {P} h looks rests off = go live refl
     where
-      on-rest : live ≡ true → eqb (r .state .phase) 2 ≡ false → clear r ≡ true → (a b : Bool) → eqb (r .state .phase) 1 ≡ a → eqb (r .state .phase) 0 ≡ b → P
-      on-rest l e c true b p q = searching l (rw (l, e, c, p)) (is-clear r 1 (eqb-true (r .state .phase) 1 p) c)
-      on-rest l e c false true p q = waiting l (rw (l, e, c, p, q)) (is-clear r 0 (eqb-true (r .state .phase) 0 q) c)
-      on-rest l e c false false p q = absurd (omega (arith, rw (l, e, c, p, q) at h))
-
       on-clear : live ≡ true → eqb (r .state .phase) 2 ≡ false → (b : Bool) → clear r ≡ b → P
-      on-clear l e true c = on-rest l e c (eqb (r .state .phase) 1) (eqb (r .state .phase) 0) refl refl
+      on-clear l e true c = rests l (rw (l, e, c)) (is-clear r (r .state .phase) refl c)
       on-clear l e false c = absurd (omega (arith, rw (l, e, c) at h))
 
       on-phase : live ≡ true → (b : Bool) → eqb (r .state .phase) 2 ≡ b → P
@@ -57,22 +53,22 @@ module _ (r : ReceiverHalf) (live : Bool) (marks spaces : ℕ) where
           let t = both (eqb (r .state .phase) 0) _ (endless-so _ (rw l at h)) in
           off l (is-clear r 0 (eqb-true (r .state .phase) 0 (t .0)) (t .1))
 
-  pub looks-calm : live ≡ true → r .state .phase ≡ 2 → receiverCalm r live marks spaces ≡ r .state .countdown
+  pub looks-calm : live ≡ true → r .state .phase ≡ 2 → receiverCalm r live keeps ≡ r .state .countdown
   unfolding receiverCalm
   looks-calm l e = rw (l, eq-eqb (r .state .phase) 2 e)
 
-off-calm : (r : ReceiverHalf) (marks spaces : ℕ) → r .state .phase ≡ 2 → receiverCalm r false marks spaces ≡ 0
+off-calm : (r : ReceiverHalf) (keeps : ℕ) → r .state .phase ≡ 2 → receiverCalm r false keeps ≡ 0
 unfolding receiverCalm
-off-calm r marks spaces e = rw (ne-eqb (r .state .phase) 0 (λ z. omega arith))
+off-calm r keeps e = rw (ne-eqb (r .state .phase) 0 (λ z. omega arith))
 
--- at rest the line alone decides
-rest-calm : (p h u m z : ℕ) → receiverCalm (resting p h u) true m z ≡ cond (eqb p 2) 0 (cond (eqb p 1) m (cond (eqb p 0) z 0))
+-- what it does as the line goes on is as before, but for how long the line stays
+keeps-less : (r : ReceiverHalf) (live : Bool) (m n : ℕ) → m ≤ suc n → receiverCalm r live m ≤ suc (receiverCalm r live n)
 unfolding receiverCalm
-rest-calm p h u m z = refl
-
-off-same : (r : ReceiverHalf) (live : Bool) (m z n y : ℕ) → live ≡ false → receiverCalm r live m z ≡ receiverCalm r live n y
-unfolding receiverCalm
-off-same r live m z n y l = rw l
+keeps-less r true m n h =
+    each (λ (k : ℕ). k ≤ suc (cond (eqb (r .state .phase) 2) (r .state .countdown) (cond (clear r) n 0))) (eqb (r .state .phase) 2)
+    (λ e. rw e (omega arith))
+    (λ e. each (λ (k : ℕ). k ≤ suc (cond (eqb (r .state .phase) 2) (r .state .countdown) (cond (clear r) n 0))) (clear r) (λ c. rw (e, c) h) (λ c. omega arith))
+keeps-less r false m n h = omega arith
 
 module _ (r : ReceiverHalf) (live : Bool) (f : Format) (x : Bool) where
   -- a tick between two looks lowers the countdown
@@ -87,33 +83,30 @@ module _ (r : ReceiverHalf) (live : Bool) (f : Format) (x : Bool) where
       ∙ ap (λ (p : ℕ). quietly (held p c)) (sym e)
 
   -- one with no character under way stays as it is
-  rest-kept : (p : ℕ) (on y : Bool) → live ≡ on → x ≡ y → Stays p on y → r ≡ resting p (r .holding) (r .unread) → receive r live f x ≡ quietly (receiverSkipped 1 r)
-  rest-kept p on y l t s e = ap₂ (λ (b z : Bool). receive r b f z) l t ∙ rest-stays r p on y f s e ∙ ap quietly (sym (clear-kept r p 1 e))
+  rest-kept : (p : ℕ) (b : Bool) → live ≡ b → Stays p b x → r ≡ resting p (r .holding) (r .unread) → receive r live f x ≡ quietly (receiverSkipped 1 r)
+  rest-kept p b l s e = ap (λ (z : Bool). receive r z f x) l ∙ rest-stays r p b x f s e ∙ ap quietly (sym (clear-kept r p 1 e))
 
-module _ (r : ReceiverHalf) (live : Bool) (marks spaces : ℕ) (h : 1 ≤ receiverCalm r live marks spaces) where
-  -- a tick that only counts brings nothing
-  pub receiver-counts : (f : Format) (x : Bool) → (1 ≤ marks → x ≡ true) → (1 ≤ spaces → x ≡ false) → receive r live f x ≡ quietly (receiverSkipped 1 r)
-  receiver-counts f x marked spaced =
-      by-phase r live marks spaces h
+module _ (r : ReceiverHalf) (live : Bool) (keeps : ℕ) (h : 1 ≤ receiverCalm r live keeps) where
+  -- a tick that only counts brings nothing, if the level is that of the phase where it matters
+  pub receiver-counts : (f : Format) (x : Bool) → (1 ≤ keeps → r .state .phase ≡ bit x) → receive r live f x ≡ quietly (receiverSkipped 1 r)
+  receiver-counts f x level =
+      by-phase r live keeps h
       (λ l e q. looks-kept r live f x l e (omega arith))
-      (λ l q e. rest-kept r live f x 1 true true l (marked (omega arith)) searches-on e)
-      (λ l q e. rest-kept r live f x 0 true false l (spaced (omega arith)) waits-on e)
-      (λ l e. rest-kept r live f x 0 false x l refl (stays-off x) e)
+      (λ l q e. rest-kept r live f x (bit x) true l (rests-on x) (e ∙ ap (λ (p : ℕ). resting p (r .holding) (r .unread)) (level (omega arith))))
+      (λ l e. rest-kept r live f x 0 false l (stays-off x) e)
 
   -- == many ==
 
   -- the calm lasts, but for the tick that passed, if the line's does
-  pub receiver-again : (m z : ℕ) → marks ≤ suc m → spaces ≤ suc z → receiverCalm r live marks spaces ≤ suc (receiverCalm (receiverSkipped 1 r) live m z)
-  receiver-again m z a b =
-      by-phase r live marks spaces h
-      (λ l e q. omega (arith, looks-calm (receiverSkipped 1 r) live m z l e))
-      (λ l q e. omega (arith, at-rest-is m z 1 l e))
-      (λ l q e. omega (arith, at-rest-is m z 0 l e))
-      (λ l e. omega (arith, ap (λ (k : ReceiverHalf). receiverCalm k live m z) (clear-kept r 0 1 e), off-same r live m z marks spaces l))
+  pub receiver-again : (n : ℕ) → keeps ≤ suc n → receiverCalm r live keeps ≤ suc (receiverCalm (receiverSkipped 1 r) live n)
+  receiver-again n a =
+      by-phase r live keeps h
+      (λ l e q. omega (arith, looks-calm (receiverSkipped 1 r) live n l e))
+      (λ l q e. kept (r .state .phase) e)
+      (λ l e. kept 0 e)
     where
-      at-rest-is : (m z p : ℕ) → live ≡ true → r ≡ resting p (r .holding) (r .unread)
-          → receiverCalm (receiverSkipped 1 r) live m z ≡ cond (eqb p 2) 0 (cond (eqb p 1) m (cond (eqb p 0) z 0))
-      at-rest-is m z p l e = ap₂ (λ (k : ReceiverHalf) (y : Bool). receiverCalm k y m z) (clear-kept r p 1 e ∙ e) l ∙ rest-calm p (r .holding) (r .unread) m z
+      kept : (p : ℕ) → r ≡ resting p (r .holding) (r .unread) → receiverCalm r live keeps ≤ suc (receiverCalm (receiverSkipped 1 r) live n)
+      kept p e = omega (arith, keeps-less r live keeps n a, ap (λ (k : ReceiverHalf). receiverCalm k live n) (clear-kept r p 1 e))
 
 -- k ticks after the first are k + 1
 pub receiver-then : (r : ReceiverHalf) (k : ℕ) → receiverSkipped k (receiverSkipped 1 r) ≡ receiverSkipped (suc k) r
@@ -122,6 +115,6 @@ receiver-then r k =
     (let e : r .state .countdown - 1 - k ≡ r .state .countdown - suc k = omega arith in e)
 
 -- a receiver that looks at the next tick has no calm one
-pub look-now : (r : ReceiverHalf) (live : Bool) (marks spaces : ℕ) → (eqb (r .state .phase) 2 && eqb (r .state .countdown) 0) ≡ true → receiverCalm r live marks spaces ≡ 0
-look-now r true marks spaces h = let t = both (eqb (r .state .phase) 2) _ h in looks-calm r true marks spaces refl (eqb-true _ _ (t .0)) ∙ eqb-true _ _ (t .1)
-look-now r false marks spaces h = let t = both (eqb (r .state .phase) 2) _ h in off-calm r marks spaces (eqb-true _ _ (t .0))
+pub look-now : (r : ReceiverHalf) (live : Bool) (keeps : ℕ) → (eqb (r .state .phase) 2 && eqb (r .state .countdown) 0) ≡ true → receiverCalm r live keeps ≡ 0
+look-now r true keeps h = let t = both (eqb (r .state .phase) 2) _ h in looks-calm r true keeps refl (eqb-true _ _ (t .0)) ∙ eqb-true _ _ (t .1)
+look-now r false keeps h = let t = both (eqb (r .state .phase) 2) _ h in off-calm r keeps (eqb-true _ _ (t .0))

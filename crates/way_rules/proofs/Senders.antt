@@ -8,8 +8,8 @@ use mathlib.Core.Bool.{Bool, true, false, cond, not, _&&_, true≢false}
 use lib.Dec.{ltb, eqb}
 use borrow.Author.Tests.{lt-ltb, le-ltb, le-leb, ltb-true, ltb-false, leb-true, eqb-true, ne-eqb}
 use Rattle.line_rules.specs.declared.Format.{Format}
-use Rattle.line_rules.specs.Sending.{on, frameLength, levelOf, level}
-use Rattle.line_rules.proofs.Choice.{all, not-so}
+use Rattle.line_rules.specs.Sending.{bit, on, frameLength, levelOf, level}
+use Rattle.line_rules.proofs.Choice.{either, each, not-so}
 use Rattle.line_rules.proofs.Frames.{level-stop}
 use Rattle.line_rules.proofs.Table.{both}
 use Rattle.link_rules.specs.declared.Frame.{Frame}
@@ -19,7 +19,7 @@ use Rattle.link_rules.specs.Parts.{noFrame, withFrame, withGuard}
 use Rattle.link_rules.specs.Transmitting.{nextPlace, frameAt, frameNext, frameTick, breakTick, markTick, transmit}
 use Rattle.link_rules.proofs.Halves.{transmit-under}
 use Rattle.way_rules.specs.declared.Ends.{Ends}
-use Rattle.way_rules.specs.Calm.{endless, breaks, placesLeft, senderCalm, stopping, bitLeft, senderLevel, senderHolds, senderMarks, senderSpaces, senderSkipped}
+use Rattle.way_rules.specs.Calm.{endless, breaks, placesLeft, senderCalm, stopping, bitLeft, senderLevel, senderHolds, senderKeeps, senderSkipped}
 use Rattle.way_rules.proofs.Branches.{Least, least-both}
 
 -- a count that is not 0
@@ -162,22 +162,14 @@ module _ (e : Ends) (s : SenderHalf) where
       (λ t b g. rw (guard-tick e s t b g) (mark-counts t b))
       (λ t b g w. rw (rest-tick e s t b g w) (mark-counts t b))
 
-  -- a line at 1 is one that it sends, and so is a line at 0
-  pub marks-level : 1 ≤ senderMarks e s → senderLevel e s ≡ true
-  unfolding senderMarks
-  marks-level h = go (senderLevel e s) refl
+  -- a line that is at a level for some ticks is at the one that it sends
+  pub keeps-level : (p : ℕ) → 1 ≤ senderKeeps e s p → p ≡ bit (senderLevel e s)
+  unfolding senderKeeps
+  keeps-level p h = go (eqb p (bit (senderLevel e s))) refl
     where
-      go : (b : Bool) → senderLevel e s ≡ b → senderLevel e s ≡ true
-      go true q = q
-      go false q = absurd (omega (arith, (let z : senderMarks e s ≡ 0 = rw q in z)))
-
-  pub spaces-level : 1 ≤ senderSpaces e s → senderLevel e s ≡ false
-  unfolding senderSpaces
-  spaces-level h = go (senderLevel e s) refl
-    where
-      go : (b : Bool) → senderLevel e s ≡ b → senderLevel e s ≡ false
-      go true q = absurd (omega (arith, (let z : senderSpaces e s ≡ 0 = rw q in z)))
-      go false q = q
+      go : (b : Bool) → eqb p (bit (senderLevel e s)) ≡ b → p ≡ bit (senderLevel e s)
+      go true q = eqb-true p _ q
+      go false q = absurd (omega (arith, (let z : senderKeeps e s p ≡ 0 = rw q in z)))
 
 -- == many ==
 
@@ -217,23 +209,12 @@ guard-levels e s t b g h =
     ∙ sym (ap (λ (o : Sent). o .level) (guard-tick e s t b g))
 
 -- what stays for some ticks stays for one less
-level-again : (x y : Bool) (m n : ℕ) → m ≤ suc n → (2 ≤ m → y ≡ x) → cond x m 0 ≤ suc (cond y n 0)
-level-again false y m n h l = omega arith
-level-again true true m n h l = h
-level-again true false m n h l = go (ltb 1 m) refl
+level-again : (p : ℕ) (x y : Bool) (m n : ℕ) → m ≤ suc n → (2 ≤ m → y ≡ x) → cond (eqb p (bit x)) m 0 ≤ suc (cond (eqb p (bit y)) n 0)
+level-again p x y m n h l = go (ltb 1 m) refl
   where
-    go : (b : Bool) → ltb 1 m ≡ b → m ≤ 1
-    go true q = absurd (true≢false (sym (l (omega (arith, ltb-true 1 m q)))))
-    go false q = omega (arith, ltb-false 1 m q)
-
-space-again : (x y : Bool) (m n : ℕ) → m ≤ suc n → (2 ≤ m → y ≡ x) → cond x 0 m ≤ suc (cond y 0 n)
-space-again true y m n h l = omega arith
-space-again false false m n h l = h
-space-again false true m n h l = go (ltb 1 m) refl
-  where
-    go : (b : Bool) → ltb 1 m ≡ b → m ≤ 1
-    go true q = absurd (true≢false (l (omega (arith, ltb-true 1 m q))))
-    go false q = omega (arith, ltb-false 1 m q)
+    go : (b : Bool) → ltb 1 m ≡ b → cond (eqb p (bit x)) m 0 ≤ suc (cond (eqb p (bit y)) n 0)
+    go true q = rw (l (omega (arith, ltb-true 1 m q))) (each (λ (k : ℕ). k ≤ suc (cond (eqb p (bit x)) n 0)) (eqb p (bit x)) (λ e. rw e h) (λ e. omega arith))
+    go false q = either (λ (k : ℕ). k ≤ suc (cond (eqb p (bit y)) n 0)) (eqb p (bit x)) (omega (arith, ltb-false 1 m q)) (omega arith)
 
 -- a guard that falls, or has none to fall by
 guard-left : (e : Ends) (s : SenderHalf) → on (s .frame .place) ≡ false → breaks e ≡ false → s .guard ≤ suc (senderCalm e (withGuard s (s .guard - 1)))
@@ -320,10 +301,6 @@ module _ (e : Ends) (s : SenderHalf) where
       (λ t b g w. mark-then k t b)
 
 module _ (e : Ends) (s : SenderHalf) (h : 1 ≤ senderCalm e s) where
-  pub marks-again : senderMarks e s ≤ suc (senderMarks e (senderSkipped e 1 s))
-  unfolding senderMarks
-  marks-again = let k = holds-again e s h in level-again (senderLevel e s) (senderLevel e (senderSkipped e 1 s)) (senderHolds e s) (senderHolds e (senderSkipped e 1 s)) (k .ticks) (k .level)
-
-  pub spaces-again : senderSpaces e s ≤ suc (senderSpaces e (senderSkipped e 1 s))
-  unfolding senderSpaces
-  spaces-again = let k = holds-again e s h in space-again (senderLevel e s) (senderLevel e (senderSkipped e 1 s)) (senderHolds e s) (senderHolds e (senderSkipped e 1 s)) (k .ticks) (k .level)
+  pub keeps-again : (p : ℕ) → senderKeeps e s p ≤ suc (senderKeeps e (senderSkipped e 1 s) p)
+  unfolding senderKeeps
+  keeps-again p = let k = holds-again e s h in level-again p (senderLevel e s) (senderLevel e (senderSkipped e 1 s)) (senderHolds e s) (senderHolds e (senderSkipped e 1 s)) (k .ticks) (k .level)

@@ -12,9 +12,9 @@ use Rattle.link_rules.specs.declared.Received.{Received}
 use Rattle.way_rules.specs.declared.Ends.{Ends}
 use Rattle.way_rules.specs.declared.Way.{Way}
 use Rattle.way_rules.specs.Along.{sent, sentBy, heardBy, wayTick, wayTicks}
-use Rattle.way_rules.specs.Calm.{senderCalm, senderMarks, senderSpaces, senderSkipped, receiverSkipped, looks, heardCalm, wayCalm, waySkipped}
+use Rattle.way_rules.specs.Calm.{senderCalm, senderKeeps, senderSkipped, receiverSkipped, looks, heardCalm, wayCalm, waySkipped}
 use Rattle.way_rules.proofs.Branches.{Least, least-both, least-again, least-none}
-use Rattle.way_rules.proofs.Senders.{Counted, sender-counts, marks-level, spaces-level, sender-again, marks-again, spaces-again, sender-then}
+use Rattle.way_rules.proofs.Senders.{Counted, sender-counts, keeps-level, sender-again, keeps-again, sender-then}
 use Rattle.way_rules.proofs.Receivers.{receiver-counts, receiver-again, receiver-then, look-now}
 
 -- a tick that only counts does in both halves
@@ -36,7 +36,7 @@ module _ (e : Ends) (w : Way) (h : 1 ≤ wayCalm e w) where
   unfolding wayTick waySkipped
   one-skips =
       ap (heardBy (sentBy e w (sent e w)))
-      (receiver-counts (w .receiver) (e .live) (senderMarks e (w .sender)) (senderSpaces e (w .sender)) in-receiver (e .hear) (sent e w .level) (marks-level e (w .sender)) (spaces-level e (w .sender)))
+      (receiver-counts (w .receiver) (e .live) (senderKeeps e (w .sender) (w .receiver .state .phase)) in-receiver (e .hear) (sent e w .level) (keeps-level e (w .sender) (w .receiver .state .phase)))
       ∙ ap₂ (λ (s : SenderHalf) (z : Bool). record { sender = s; receiver = receiverSkipped 1 (w .receiver); empty = orSet (z && e .enabled) (w .empty); faults = w .faults })
       (counts .half) (counts .drained)
 
@@ -46,9 +46,8 @@ module _ (e : Ends) (w : Way) (h : 1 ≤ wayCalm e w) where
   calm-left =
       least-again (heardCalm e w) (senderCalm e (w .sender))
       (heardCalm e (waySkipped e 1 w)) (senderCalm e (senderSkipped e 1 (w .sender)))
-      (receiver-again (w .receiver) (e .live) (senderMarks e (w .sender)) (senderSpaces e (w .sender)) in-receiver
-      (senderMarks e (senderSkipped e 1 (w .sender))) (senderSpaces e (senderSkipped e 1 (w .sender)))
-      (marks-again e (w .sender) in-sender) (spaces-again e (w .sender) in-sender))
+      (receiver-again (w .receiver) (e .live) (senderKeeps e (w .sender) (w .receiver .state .phase)) in-receiver
+      (senderKeeps e (senderSkipped e 1 (w .sender)) (w .receiver .state .phase)) (keeps-again e (w .sender) in-sender (w .receiver .state .phase)))
       (sender-again e (w .sender) in-sender)
 
 -- k ticks after the first are k + 1
@@ -79,7 +78,7 @@ none-sent e w n q z = let k : 0 ≡ wayCalm e w = omega (arith, halves e w .seco
 -- nor does a receiver that looks at the next tick leave one
 pub looks-next : (e : Ends) (w : Way) (b : Bool) → b ≡ looks w → b ≡ true → 0 ≡ wayCalm e w
 unfolding wayCalm
-looks-next e w b q t = least-none _ _ (look-now (w .receiver) (e .live) (senderMarks e (w .sender)) (senderSpaces e (w .sender)) (sym q ∙ t))
+looks-next e w b q t = least-none _ _ (look-now (w .receiver) (e .live) (senderKeeps e (w .sender) (w .receiver .state .phase)) (sym q ∙ t))
 
 -- == the loop ==
 

@@ -6,7 +6,7 @@ use mathlib.Core.Bool.{Bool, cond, not, _&&_}
 use lib.Dec.{ltb, leb, eqb}
 use Rattle.line_rules.specs.declared.Format.{Format}
 use Rattle.line_rules.specs.declared.Receiver.{Receiver}
-use Rattle.line_rules.specs.Sending.{on, frameLength}
+use Rattle.line_rules.specs.Sending.{bit, on, frameLength}
 use Rattle.link_rules.specs.declared.Frame.{Frame}
 use Rattle.link_rules.specs.declared.SenderHalf.{SenderHalf}
 use Rattle.link_rules.specs.declared.ReceiverHalf.{ReceiverHalf}
@@ -57,13 +57,9 @@ senderLevel e s = transmit s (e .ready) (e .broken) (e .send) .level
 unfoldable pub senderHolds : Ends → SenderHalf → ℕ
 senderHolds e s = cond (on (s .frame .place)) (bitLeft (s .frame .format) (s .frame .place)) (cond (breaks e) 65535 (cond (on (s .guard)) (s .guard) 65535))
 
--- the ticks that send 1 ..
-unfoldable pub senderMarks : Ends → SenderHalf → ℕ
-senderMarks e s = cond (senderLevel e s) (senderHolds e s) 0
-
--- .. or 0
-unfoldable pub senderSpaces : Ends → SenderHalf → ℕ
-senderSpaces e s = cond (senderLevel e s) 0 (senderHolds e s)
+-- for how many ticks the line is at the level p: none where it sends the other
+unfoldable pub senderKeeps : Ends → SenderHalf → ℕ → ℕ
+senderKeeps e s p = cond (eqb p (bit (senderLevel e s))) (senderHolds e s) 0
 
 -- what k ticks that only count leave of it
 unfoldable pub senderSkipped : Ends → ℕ → SenderHalf → SenderHalf
@@ -73,16 +69,13 @@ senderSkipped e k s =
 
 -- == the receiver ==
 
--- one that searches finds no 0 while the line is 1, and one that waits no 1 while it is 0
-abbrev pub stays : Receiver → ℕ → ℕ → ℕ
-stays s marks spaces = cond (eqb (s .phase) 1) marks (cond (eqb (s .phase) 0) spaces 0)
-
--- how many ticks of the receiver only count, told whether receive is on and for how many ticks the line is 1, or 0: the countdown to its next
+-- how many ticks of the receiver only count, told whether receive is on and, of one with no character under way, for how many ticks the line is at
+-- the level of its phase: it waits (0) while the line is 0 and searches (1) while it is 1. With a character under way it is the countdown to the next
 -- look. One that is off drops nothing
-unfoldable pub receiverCalm : ReceiverHalf → Bool → ℕ → ℕ → ℕ
-receiverCalm r live marks spaces =
+unfoldable pub receiverCalm : ReceiverHalf → Bool → ℕ → ℕ
+receiverCalm r live keeps =
     cond live
-    (cond (eqb (r .state .phase) 2) (r .state .countdown) (cond (clear r) (stays (r .state) marks spaces) 0))
+    (cond (eqb (r .state .phase) 2) (r .state .countdown) (cond (clear r) keeps 0))
     (endless (eqb (r .state .phase) 0 && clear r))
 
 abbrev pub lowered : Receiver → ℕ → Receiver
@@ -99,7 +92,7 @@ abbrev pub looks : Way → Bool
 looks w = eqb (w .receiver .state .phase) 2 && eqb (w .receiver .state .countdown) 0
 
 abbrev pub heardCalm : Ends → Way → ℕ
-heardCalm e w = receiverCalm (w .receiver) (e .live) (senderMarks e (w .sender)) (senderSpaces e (w .sender))
+heardCalm e w = receiverCalm (w .receiver) (e .live) (senderKeeps e (w .sender) (w .receiver .state .phase))
 
 -- how many ticks only count: those that do in both halves
 unfoldable pub wayCalm : Ends → Way → ℕ
