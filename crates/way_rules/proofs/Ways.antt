@@ -6,13 +6,14 @@ use native.Mathlib.Omega.{arith}
 use mathlib.Core.Path.{_≡_, refl, ap, ap₂, sym, _∙_}
 use mathlib.Core.Bool.{Bool, true, false, _&&_}
 use Rattle.line_rules.specs.Sending.{orSet}
+use borrow.Author.Tests.{ne-eqb}
 use Rattle.link_rules.specs.declared.SenderHalf.{SenderHalf}
 use Rattle.link_rules.specs.declared.ReceiverHalf.{ReceiverHalf}
-use Rattle.link_rules.specs.declared.Received.{Received}
+use Rattle.link_rules.specs.Within.{clear}
 use Rattle.way_rules.specs.declared.Ends.{Ends}
 use Rattle.way_rules.specs.declared.Way.{Way}
 use Rattle.way_rules.specs.Along.{sent, sentBy, heardBy, wayTick, wayTicks}
-use Rattle.way_rules.specs.Calm.{senderCalm, senderKeeps, senderSkipped, receiverSkipped, looks, heardCalm, wayCalm, waySkipped}
+use Rattle.way_rules.specs.Calm.{senderCalm, senderKeeps, senderSkipped, receiverCalm, receiverSkipped, looks, heardCalm, wayCalm, waySkipped}
 use Rattle.way_rules.proofs.Branches.{Least, least-both, least-again, least-none}
 use Rattle.way_rules.proofs.Senders.{Counted, sender-counts, keeps-level, sender-again, keeps-again, sender-then}
 use Rattle.way_rules.proofs.Receivers.{receiver-counts, receiver-again, receiver-then, look-now}
@@ -79,6 +80,12 @@ none-sent e w n q z = let k : 0 ≡ wayCalm e w = omega (arith, halves e w .seco
 pub looks-next : (e : Ends) (w : Way) (b : Bool) → b ≡ looks w → b ≡ true → 0 ≡ wayCalm e w
 unfolding wayCalm
 looks-next e w b q t = least-none _ _ (look-now (w .receiver) (e .live) (senderKeeps e (w .sender) (w .receiver .state .phase)) (sym q ∙ t))
+
+-- a receiver with no character under way goes by the line
+pub rests-calm : (e : Ends) (w : Way) → e .live ≡ true → (w .receiver .state .phase ≡ 2 → ⊥) → clear (w .receiver) ≡ true
+    → heardCalm e w ≡ senderKeeps e (w .sender) (w .receiver .state .phase)
+unfolding receiverCalm
+rests-calm e w l p c = rw (l, ne-eqb _ _ p, c)
 
 -- == the loop ==
 

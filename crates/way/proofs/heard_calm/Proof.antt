@@ -4,6 +4,7 @@ use mathlib.Core.Path.{sym, _∙_}
 use borrow.Author.Tests.{eq-eqb, ne-eqb}
 use borrow.Author.Needs.{needs}
 use Rattle.way_rules.specs.Calm.{receiverCalm}
+use Rattle.way_rules.proofs.Ways.{rests-calm}
 use Rattle.way.proofs.heard_calm.Statement.{statement}
 use Rattle.way.proofs.heard_calm.Tie as tie
 
@@ -12,9 +13,10 @@ unfolding receiverCalm
 returns c = rw (eq-eqb _ _ (c .before .if2 .taken), c .before .before .if1 .taken)
 
 returns-2 : tie.Need-returns-2
-unfolding receiverCalm
 returns-2 c =
-    rw (c .before .before .before .before .if1 .taken, ne-eqb _ _ (c .before .before .before .if2 .left), sym (c .before .before .clear .ensures) ∙ c .before .if3 .taken, c .sender-keeps .ensures)
+    c .sender-keeps .ensures
+    ∙ sym (rests-calm (c .before .before .before .before .before .args .e) (c .before .before .before .before .before .args .w)
+    (c .before .before .before .before .if1 .taken) (c .before .before .before .if2 .left) (sym (c .before .before .clear .ensures) ∙ c .before .if3 .taken))
 
 returns-3 : tie.Need-returns-3
 unfolding receiverCalm
