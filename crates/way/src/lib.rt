@@ -2,16 +2,17 @@
 // only count. Document 01, "Sending" and "Receiving", by joined ticks.
 // Every call takes any number in any field: specs/ says what each answers, inside the range and outside.
 ghost use mathlib.Core.Path.{_≡_};
-ghost use mathlib.Core.Bool.{false};
+ghost use mathlib.Core.Bool.{false, cond};
 ghost use Prim.Native.Nat.{_+_, _*_, _-_, _^_, _%_, _≤_, _<_};
-ghost use Rattle.line_rules.specs.Sending.{half, orSet};
+ghost use lib.Dec.{eqb};
+ghost use Rattle.line_rules.specs.Sending.{bit, half, level, orSet};
 ghost use Rattle.line_rules.specs.Receiving.{under, stopLook, lookAt};
 ghost use Rattle.link_rules.specs.Transmitting.{transmit, frameTick, beginTick};
 ghost use Rattle.link_rules.specs.Within;
 ghost use Rattle.way_rules.specs.Along.{sent, received, sentBy, heardBy, heardAs, withoutFrame, withMark, resting, assembled, tuned, wayTick, wayTicks};
 ghost use Rattle.way_rules.specs.Calm;
 ghost use Rattle.way_rules.specs.Leap.{lastLook, soFar, sameBits, bothBusy, inStep, flyAt, leapTicks, Ahead, Leaps, Moves};
-ghost use Rattle.way_rules.specs.Calm.{placesLeft, senderCalm, bitLeft, senderHolds, senderKeeps, senderSkipped, heardCalm, wayCalm, waySkipped};
+ghost use Rattle.way_rules.specs.Calm.{placesLeft, senderCalm, bitLeft, senderKeeps, senderSkipped, heardCalm, wayCalm, waySkipped};
 use line_rules::Format;
 use link_rules::Frame;
 use link_rules::ReceiverHalf;
@@ -357,30 +358,39 @@ fn bit_left(f: Format, place: u16) -> u16
     ticks - place % ticks
 }
 
-// For how many ticks the level that is sent next stays.
-fn sender_holds(e: Ends, s: SenderHalf) -> u16
-    ensures { λ r. ⌜ r ≡ senderHolds e s ⌝ }
+// A count where t is so, or none.
+fn only(t: bool, n: u16) -> u16
+    ensures { λ r. ⌜ r ≡ cond t n 0 ⌝ }
 {
-    if 0 < s.frame.place {
-        return bit_left(s.frame.format, s.frame.place);
-    }
-    if breaks(e) {
-        return 65535;
-    }
-    if 0 < s.guard {
-        return s.guard as u16;
-    }
-    65535
+    if t { n } else { 0 }
 }
 
-// For how many ticks the line is at the level p: none where it sends the other.
+// For how many ticks a frame holds the level p from its place on. A frame in its stop needs no division for its level.
+fn frame_keeps(g: Frame, p: u8) -> u16
+    ensures { λ r. ⌜ r ≡ cond (eqb p (bit (level (g .format) (g .character) (g .place)))) (bitLeft (g .format) (g .place)) 0 ⌝ }
+{
+    let f = g.format;
+    let ticks = bit_left(f, g.place);
+    if stopping(g) {
+        return only(p == 1, ticks);
+    }
+    only(p == line::number(line::level(f, g.character, g.place)), ticks)
+}
+
+// For how many ticks the line is at the level p: none where it is at the other.
 fn sender_keeps(e: Ends, s: SenderHalf, p: u8) -> u16
     ensures { λ r. ⌜ r ≡ senderKeeps e s p ⌝ }
 {
-    if p == line::number(level_now(e, s)) {
-        return sender_holds(e, s);
+    if 0 < s.frame.place {
+        return frame_keeps(s.frame, p);
     }
-    0
+    if breaks(e) {
+        return only(p == 0, 65535);
+    }
+    if 0 < s.guard {
+        return only(p == 1, s.guard as u16);
+    }
+    only(p == line::number(!(e.ready & (0 < s.full))), 65535)
 }
 
 fn sender_skipped(e: Ends, k: u16, mut s: SenderHalf) -> SenderHalf

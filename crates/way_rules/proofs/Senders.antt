@@ -93,13 +93,21 @@ module _ (e : Ends) (s : SenderHalf) where
   unfolding senderCalm
   guard-calm t b g = rw (t, b, g)
 
-  frame-holds : on (s .frame .place) ≡ true → senderHolds e s ≡ bitLeft (s .frame .format) (s .frame .place)
+  pub frame-holds : on (s .frame .place) ≡ true → senderHolds e s ≡ bitLeft (s .frame .format) (s .frame .place)
   unfolding senderHolds
   frame-holds t = rw t
 
-  guard-holds : on (s .frame .place) ≡ false → breaks e ≡ false → on (s .guard) ≡ true → senderHolds e s ≡ s .guard
+  pub break-holds : on (s .frame .place) ≡ false → breaks e ≡ true → senderHolds e s ≡ 65535
+  unfolding senderHolds
+  break-holds t b = rw (t, b)
+
+  pub guard-holds : on (s .frame .place) ≡ false → breaks e ≡ false → on (s .guard) ≡ true → senderHolds e s ≡ s .guard
   unfolding senderHolds
   guard-holds t b g = rw (t, b, g)
+
+  pub rest-holds : on (s .frame .place) ≡ false → breaks e ≡ false → on (s .guard) ≡ false → senderHolds e s ≡ 65535
+  unfolding senderHolds
+  rest-holds t b g = rw (t, b, g)
 
   frame-level : on (s .frame .place) ≡ true → senderLevel e s ≡ level (s .frame .format) (s .frame .character) (s .frame .place)
   frame-level t = ap (λ (o : Sent). o .level) (transmit-under s (e .ready) (e .broken) (e .send) t)

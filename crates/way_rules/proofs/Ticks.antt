@@ -22,7 +22,7 @@ use Rattle.link_rules.proofs.Halves.{transmit-under}
 use Rattle.way_rules.specs.declared.Ends.{Ends}
 use Rattle.way_rules.specs.declared.Way.{Way}
 use Rattle.way_rules.specs.Along.{sent, received, sentBy, heardBy, heardAs, withoutFrame, withMark, resting, assembled, tuned}
-use Rattle.way_rules.specs.Calm.{breaks, stopping}
+use Rattle.way_rules.specs.Calm.{breaks, stopping, senderHolds, senderKeeps}
 use Rattle.way_rules.proofs.Senders.{break-tick, guard-tick, rest-tick, unguarded, stop-level}
 
 -- == the sender ==
@@ -100,6 +100,11 @@ module _ (e : Ends) (s : SenderHalf) where
       go : (w : Bool) → (e .ready && on (s .full)) ≡ w → not w ≡ ticked .level
       go true w = sym (ap (λ (o : Sent). o .level) (begin-tick t b g w) ∙ ap (levelOf (e .send) (s .holding)) (zero-div (e .send .factor)))
       go false w = sym (ap (λ (o : Sent). o .level) (rest-tick e s t b g w))
+
+  -- what the line keeps, by the level and its ticks
+  pub keeps-as : (p : ℕ) (x : Bool) (m : ℕ) → x ≡ ticked .level → senderHolds e s ≡ m → cond (eqb p (bit x)) m 0 ≡ senderKeeps e s p
+  unfolding senderKeeps
+  keeps-as p x m l h = ap₂ (λ (y : Bool) (k : ℕ). cond (eqb p (bit y)) k 0) l (sym h)
 
 module _ (e : Ends) (w : Way) where
   pub send-frame : on (w .sender .frame .place) ≡ true → sentBy e w (frameTick (w .sender) (w .sender .frame) false) ≡ sentBy e w (sent e w)

@@ -1,0 +1,29 @@
+-- `way::frame_keeps` meets its contract. A stop is at 1, and any other place at its level.
+-- Assumes nothing.
+use Prim.Native.Nat.{ℕ}
+use mathlib.Core.Path.{_≡_, ap, ap₂, sym, _∙_}
+use mathlib.Core.Bool.{Bool, cond}
+use lib.Dec.{eqb}
+use borrow.Author.Needs.{needs}
+use Rattle.line_rules.specs.Sending.{bit}
+use Rattle.way_rules.proofs.Senders.{stop-level}
+use Rattle.way.proofs.frame_keeps.Statement.{statement}
+use Rattle.way.proofs.frame_keeps.Tie as tie
+
+returns : tie.Need-returns
+returns c =
+    c .only .ensures
+    ∙ ap₂ (λ (x : Bool) (n : ℕ). cond (eqb (c .before .before .before .before .before .args .p) (bit x)) n 0)
+    (sym (stop-level (c .before .before .before .before .before .args .g) (sym (c .before .before .stopping .ensures) ∙ c .before .if1 .taken)))
+    (c .before .before .before .bit-left .ensures)
+
+returns-2 : tie.Need-returns-2
+returns-2 c =
+    c .only2 .ensures
+    ∙ ap₂ (λ (x n : ℕ). cond (eqb (c .before .before .before .before .before .before .before .args .p) x) n 0)
+    (c .before .number .ensures .0 ∙ ap bit (c .before .before .level .ensures))
+    (c .before .before .before .before .before .bit-left .ensures)
+
+pub frame-keeps-spec : {M : Type 1} → statement M
+frame-keeps-spec =
+    tie.close (tie.spec (λ c κs. search needs) (λ c κs. search needs) (λ c κs. search needs) returns (λ c κs. search needs) (λ c κs. search needs) (λ c κs. search needs) returns-2)
