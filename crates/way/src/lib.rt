@@ -9,7 +9,8 @@ ghost use Rattle.line_rules.specs.Sending.{bit, half, level, orSet};
 ghost use Rattle.line_rules.specs.Receiving.{under, stopLook, lookAt};
 ghost use Rattle.link_rules.specs.Transmitting.{transmit, frameTick, beginTick};
 ghost use Rattle.link_rules.specs.Within;
-ghost use Rattle.way_rules.specs.Along.{sent, received, sentBy, heardBy, heardAs, withoutFrame, withMark, resting, assembled, tuned, wayTick, wayTicks};
+ghost use Rattle.way_rules.specs.Parts.{withoutFrame, withMark, resting, assembled, tuned};
+ghost use Rattle.way_rules.specs.Along.{sent, received, sentBy, heardBy, heardAs, wayTick, wayTicks};
 ghost use Rattle.way_rules.specs.Calm;
 ghost use Rattle.way_rules.specs.Leap.{lastLook, soFar, sameBits, bothBusy, inStep, flyAt, leapTicks, Ahead, Leaps, Moves};
 ghost use Rattle.way_rules.specs.Calm.{placesLeft, senderCalm, bitLeft, senderKeeps, senderSkipped, heardCalm, wayCalm, waySkipped};
@@ -374,7 +375,10 @@ fn frame_keeps(g: Frame, p: u8) -> u16
     if stopping(g) {
         return only(p == 1, ticks);
     }
-    only(p == line::number(line::level(f, g.character, g.place)), ticks)
+    only(
+        p == line::number(line::level(f, g.character, g.place)),
+        ticks,
+    )
 }
 
 // For how many ticks the line is at the level p: none where it is at the other.

@@ -21,7 +21,8 @@ use Rattle.link_rules.specs.Hearing.{receive}
 use Rattle.link_rules.proofs.Halves.{transmit-under}
 use Rattle.way_rules.specs.declared.Ends.{Ends}
 use Rattle.way_rules.specs.declared.Way.{Way}
-use Rattle.way_rules.specs.Along.{sent, received, sentBy, heardBy, heardAs, withoutFrame, withMark, resting, assembled, tuned}
+use Rattle.way_rules.specs.Along.{sent, received, sentBy, heardBy, heardAs}
+use Rattle.way_rules.specs.Parts.{withSender, withoutFrame, withMark, resting, assembled, tuned}
 use Rattle.way_rules.specs.Calm.{breaks, stopping, senderHolds, senderKeeps}
 use Rattle.way_rules.proofs.Senders.{break-tick, guard-tick, rest-tick, unguarded, stop-level}
 
@@ -37,14 +38,11 @@ going s g b n =
       drained = eqb n 0 && eqb (s .full) 0;
     }
 
-abbrev with-sender : Way → SenderHalf → Way
-with-sender w s = record { sender = s; receiver = w .receiver; empty = w .empty; faults = w .faults }
-
 module _ (e : Ends) (w : Way) (n : ℕ) where
   pub framed-on : n ≡ nextPlace (w .sender .frame .format) (w .sender .frame .place) → 0 < n
-      → with-sender w (withFrame (w .sender) (frameAt (w .sender .frame) n)) ≡ sentBy e w (frameTick (w .sender) (w .sender .frame) false)
+      → withSender w (withFrame (w .sender) (frameAt (w .sender .frame) n)) ≡ sentBy e w (frameTick (w .sender) (w .sender .frame) false)
   framed-on q h =
-      (let z : with-sender w (withFrame (w .sender) (frameAt (w .sender .frame) n)) ≡ sentBy e w (going (w .sender) (w .sender .frame) false n) =
+      (let z : withSender w (withFrame (w .sender) (frameAt (w .sender .frame) n)) ≡ sentBy e w (going (w .sender) (w .sender .frame) false n) =
       rw (lt-ltb 0 n h, ne-eqb n 0 (λ k. omega arith)) in z)
       ∙ ap (λ (k : ℕ). sentBy e w (going (w .sender) (w .sender .frame) false k)) q
 
@@ -60,16 +58,16 @@ module _ (e : Ends) (w : Way) (n : ℕ) where
   first = record { character = w .sender .holding; format = e .send; place = 0 }
 
   pub begun-on : n ≡ nextPlace (e .send) 0 → 0 < n
-      → with-sender w (withFrame (unloaded (w .sender)) (frameAt first n)) ≡ sentBy e w (beginTick (w .sender) (e .send))
+      → withSender w (withFrame (unloaded (w .sender)) (frameAt first n)) ≡ sentBy e w (beginTick (w .sender) (e .send))
   begun-on q h =
-      (let z : with-sender w (withFrame (unloaded (w .sender)) (frameAt first n)) ≡ sentBy e w (going (unloaded (w .sender)) first true n) =
+      (let z : withSender w (withFrame (unloaded (w .sender)) (frameAt first n)) ≡ sentBy e w (going (unloaded (w .sender)) first true n) =
       rw (lt-ltb 0 n h, ne-eqb n 0 (λ k. omega arith)) in z)
       ∙ ap (λ (k : ℕ). sentBy e w (going (unloaded (w .sender)) first true k)) q
 
   pub begun-off : n ≡ nextPlace (e .send) 0 → n ≤ 0
-      → withMark (e .enabled) (withoutFrame (with-sender w (unloaded (w .sender)))) ≡ sentBy e w (beginTick (w .sender) (e .send))
+      → withMark (e .enabled) (withoutFrame (withSender w (unloaded (w .sender)))) ≡ sentBy e w (beginTick (w .sender) (e .send))
   begun-off q h =
-      (let z : withMark (e .enabled) (withoutFrame (with-sender w (unloaded (w .sender)))) ≡ sentBy e w (going (unloaded (w .sender)) first true n) =
+      (let z : withMark (e .enabled) (withoutFrame (withSender w (unloaded (w .sender)))) ≡ sentBy e w (going (unloaded (w .sender)) first true n) =
       rw (le-ltb 0 n h, eq-eqb n 0 (omega arith)) in z)
       ∙ ap (λ (k : ℕ). sentBy e w (going (unloaded (w .sender)) first true k)) q
 
@@ -110,10 +108,10 @@ module _ (e : Ends) (w : Way) where
   pub send-frame : on (w .sender .frame .place) ≡ true → sentBy e w (frameTick (w .sender) (w .sender .frame) false) ≡ sentBy e w (sent e w)
   send-frame t = sym (ap (sentBy e w) (transmit-under (w .sender) (e .ready) (e .broken) (e .send) t))
 
-  pub send-break : on (w .sender .frame .place) ≡ false → breaks e ≡ true → with-sender w (withGuard (w .sender) (e .send .factor)) ≡ sentBy e w (sent e w)
+  pub send-break : on (w .sender .frame .place) ≡ false → breaks e ≡ true → withSender w (withGuard (w .sender) (e .send .factor)) ≡ sentBy e w (sent e w)
   send-break t b = sym (ap (sentBy e w) (break-tick e (w .sender) t b))
 
-  pub send-guard : on (w .sender .frame .place) ≡ false → breaks e ≡ false → on (w .sender .guard) ≡ true → with-sender w (withGuard (w .sender) (w .sender .guard - 1)) ≡ sentBy e w (sent e w)
+  pub send-guard : on (w .sender .frame .place) ≡ false → breaks e ≡ false → on (w .sender .guard) ≡ true → withSender w (withGuard (w .sender) (w .sender .guard - 1)) ≡ sentBy e w (sent e w)
   send-guard t b g = sym (ap (sentBy e w) (guard-tick e (w .sender) t b g))
 
   pub send-begin : on (w .sender .frame .place) ≡ false → breaks e ≡ false → on (w .sender .guard) ≡ false → (e .ready && on (w .sender .full)) ≡ true
@@ -122,7 +120,7 @@ module _ (e : Ends) (w : Way) where
 
   pub send-rest : on (w .sender .frame .place) ≡ false → breaks e ≡ false → on (w .sender .guard) ≡ false → (e .ready && on (w .sender .full)) ≡ false
       → w ≡ sentBy e w (sent e w)
-  send-rest t b g h = sym (ap (sentBy e w) (rest-tick e (w .sender) t b g h) ∙ ap (with-sender w) (unguarded e (w .sender) g))
+  send-rest t b g h = sym (ap (sentBy e w) (rest-tick e (w .sender) t b g h) ∙ ap (withSender w) (unguarded e (w .sender) g))
 
 -- == the receiver ==
 

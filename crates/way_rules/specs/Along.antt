@@ -8,11 +8,9 @@ use Rattle.line_rules.specs.declared.Heard.the-variants.{Nothing, Character}
 use Rattle.line_rules.specs.declared.Format.{Format}
 use Rattle.line_rules.specs.declared.Sampled.{Sampled}
 use Rattle.line_rules.specs.Sending.{orSet}
-use Rattle.line_rules.specs.Receiving.{atRest, assembling}
 use Rattle.link_rules.specs.declared.Sent.{Sent}
 use Rattle.link_rules.specs.declared.Received.{Received}
 use Rattle.link_rules.specs.Transmitting.{transmit}
-use Rattle.link_rules.specs.Parts.{noFormat, noFrame}
 use Rattle.link_rules.specs.Hearing.{afterSample, receive}
 use Rattle.way_rules.specs.declared.Faults.{Faults}
 use Rattle.way_rules.specs.declared.Ends.{Ends}
@@ -43,49 +41,6 @@ heardBy w r = record { sender = w .sender; receiver = r .half; empty = w .empty;
 -- .. after a sample that was read in the format g
 abbrev pub heardAs : Way → Format → Sampled → Way
 heardAs w g o = heardBy w (afterSample (w .receiver) g o)
-
--- no frame is under way
-abbrev pub withoutFrame : Way → Way
-withoutFrame w =
-    record {
-      sender = record { frame = noFrame; holding = w .sender .holding; full = w .sender .full; guard = w .sender .guard };
-      receiver = w .receiver;
-      empty = w .empty;
-      faults = w .faults;
-    }
-
-abbrev pub withMark : Bool → Way → Way
-withMark t w = record { sender = w .sender; receiver = w .receiver; empty = orSet t (w .empty); faults = w .faults }
-
--- no character is under way
-abbrev pub resting : ℕ → Way → Way
-resting p w =
-    record {
-      sender = w .sender;
-      receiver = record { state = atRest p; format = noFormat; holding = w .receiver .holding; unread = w .receiver .unread };
-      empty = w .empty;
-      faults = w .faults;
-    }
-
--- one is
-abbrev pub assembled : ℕ → ℕ → ℕ → ℕ → Way → Way
-assembled c m v x w =
-    record {
-      sender = w .sender;
-      receiver = record { state = assembling c m v x; format = w .receiver .format; holding = w .receiver .holding; unread = w .receiver .unread };
-      empty = w .empty;
-      faults = w .faults;
-    }
-
--- .. in the format f
-abbrev pub tuned : Format → Way → Way
-tuned f w =
-    record {
-      sender = w .sender;
-      receiver = record { state = w .receiver .state; format = f; holding = w .receiver .holding; unread = w .receiver .unread };
-      empty = w .empty;
-      faults = w .faults;
-    }
 
 -- a tick: the receiver takes what the sender sends
 unfoldable pub wayTick : Ends → Way → Way
