@@ -28,7 +28,7 @@ use Rattle.link_rules.proofs.Halves.{length-bound, frame-ends, off-leaves, rece
 use Rattle.way_rules.specs.declared.Ends.{Ends}
 use Rattle.way_rules.specs.declared.Way.{Way}
 use Rattle.way_rules.specs.Along.{sent, wayTick}
-use Rattle.way_rules.specs.Calm.{breaks, placesLeft, senderCalm, senderLevel, senderHolds, senderKeeps, senderSkipped, receiverCalm, lowered, receiverSkipped, wayCalm, waySkipped}
+use Rattle.way_rules.specs.Calm.{breaks, placesLeft, senderCalm, senderLevel, senderHolds, senderKeeps, senderSkipped, receiverCalm, lowered, receiverSkipped, wayCalm, waySkipped, Exactly}
 use Rattle.way_rules.proofs.Branches.{least-above}
 use Rattle.way_rules.proofs.Ways.{skips}
 
@@ -227,9 +227,5 @@ only-counts-is-calm e w s r h =
     (sender-calm e (w .sender) s (ap (λ (q : Way). q .sender) h))
 
 -- the calm ticks are those that only count, no fewer and no more
-pub record Exactly (e : Ends) (w : Way) : Type 0 where
-  pub counts : 1 ≤ wayCalm e w → wayTick e w ≡ waySkipped e 1 w
-  pub calm : wayTick e w ≡ waySkipped e 1 w → 1 ≤ wayCalm e w
-
 pub calm-exactly : (e : Ends) (w : Way) → senderInRange (w .sender) ≡ true → receiverInRange (w .receiver) ≡ true → Exactly e w
 calm-exactly e w s r = record { counts = λ c. sym (skips e 1 w (omega arith) c); calm = only-counts-is-calm e w s r }

@@ -1,7 +1,8 @@
 -- Ticks of a way that only count: a frame holds each level for F ticks, a receiver looks once in F, a guard runs down and a break holds its level,
 -- so that most ticks move a place, a countdown or a guard by one and nothing else; many of those can be done at once.
 -- Assumes nothing.
-use Prim.Native.Nat.{ℕ, suc, _+_, _-_, _%_}
+use Prim.Native.Nat.{ℕ, suc, _+_, _-_, _%_, _≤_}
+use mathlib.Core.Path.{_≡_}
 use mathlib.Core.Bool.{Bool, cond, not, _&&_}
 use lib.Dec.{ltb, leb, eqb}
 use Rattle.line_rules.specs.declared.Format.{Format}
@@ -15,6 +16,7 @@ use Rattle.link_rules.specs.Transmitting.{frameAt, transmit}
 use Rattle.link_rules.specs.Within.{clear}
 use Rattle.way_rules.specs.declared.Ends.{Ends}
 use Rattle.way_rules.specs.declared.Way.{Way}
+use Rattle.way_rules.specs.Along.{wayTick}
 
 abbrev pub least : ℕ → ℕ → ℕ
 least m n = cond (ltb m n) m n
@@ -101,3 +103,8 @@ wayCalm e w = least (heardCalm e w) (senderCalm e (w .sender))
 -- what k of them leave
 unfoldable pub waySkipped : Ends → ℕ → Way → Way
 waySkipped e k w = record { sender = senderSkipped e k (w .sender); receiver = receiverSkipped k (w .receiver); empty = w .empty; faults = w .faults }
+
+-- a tick is calm exactly where it only counts: none that counts is left to be done by itself, and none that does more is skipped
+pub record Exactly (e : Ends) (w : Way) : Type 0 where
+  pub counts : 1 ≤ wayCalm e w → wayTick e w ≡ waySkipped e 1 w
+  pub calm : wayTick e w ≡ waySkipped e 1 w → 1 ≤ wayCalm e w
