@@ -1,0 +1,17 @@
+-- How C gets an answer as one number; and what the acts on a lent pair answer and leave, of which its calls are made.
+-- Assumes nothing.
+use Prim.Native.Nat.{ℕ, _+_, _*_}
+use Rattle.joined_rules.specs.declared.Pair.{Pair}
+use Rattle.joined_rules.specs.declared.Joined.{Joined}
+use Rattle.joined_rules.specs.Joining as Joining
+use Rattle.pair_host.specs.declared.PairReply.{PairReply}
+
+-- the levels that a joined tick sent, as one number: 1 where `a` sent a 1, and 2 where `b` did
+abbrev pub levelsSent : Joined → ℕ
+levelsSent j = j .b * 2 + j .a
+
+abbrev pub tick : Pair → PairReply
+tick p = record { answer = levelsSent (Joining.tick p); pair = Joining.tick p .pair }
+
+abbrev pub run : Pair → ℕ → PairReply
+run p n = record { answer = Joining.run p n .refusal; pair = Joining.run p n .pair }
