@@ -35,8 +35,7 @@ use Rattle.ins2651_rules.proofs.Device.Laws as D′
 use Rattle.board_rules.specs.Runs.{deviceAt}
 use Rattle.host.proofs.Calls.{vals, Bytes, copies, held}
 use Rattle.host.proofs.Calls as host
-use Rattle.host.proofs.Lends.{At}
-use Rattle.host.proofs.Bytes.{Fit, cells, AllStand}
+use Rattle.host.proofs.Bytes.{At, Fit, cells, AllStand}
 use Rattle.host.proofs.Again.{reborrow, Lending, on-loan}
 use Rattle.board.proofs.Calls.{size, room-ref}
 use Rattle.board.proofs.Entry.{Loan, lent-room}

@@ -28,8 +28,7 @@ use Rattle.board.specs.declared.Plan.{Plan}
 use Rattle.board.proofs.Plan.Laws as P′
 use Rattle.host.proofs.Calls.{Bytes, past}
 use Rattle.host.proofs.Calls as host
-use Rattle.host.proofs.Lends.{At}
-use Rattle.host.proofs.Bytes.{Fit, Locals, AllStand, cells}
+use Rattle.host.proofs.Bytes.{At, Fit, Locals, AllStand, cells}
 use Rattle.host.proofs.Again.{reborrow, Lending}
 use Rattle.board.proofs.Calls.{size, plan-val, room-ref, at}
 use Rattle.board.proofs.Entry.{Loan, lent-room}

@@ -37,8 +37,7 @@ use Rattle.ins2651_rules.specs.declared.Device.{Device}
 use Rattle.ins2651_rules.proofs.Device as D
 use Rattle.ins2651_rules.proofs.Device.Laws as D′
 use Rattle.host.proofs.Calls.{Bytes, bytes, kept-bytes, numbers, lent, Promise, Lent, reference, copies, device, held}
-use Rattle.host.proofs.Lends.{At}
-use Rattle.host.proofs.Bytes.{Fit, denots, spelled, numbers-are, spelled-are, own-bytes, cells, AllStand, carried, read-bytes}
+use Rattle.host.proofs.Bytes.{At, Fit, denots, spelled, numbers-are, spelled-are, own-bytes, cells, AllStand, carried, read-bytes}
 
 -- the reference that is made for a call
 abbrev pub reborrow : Ty

@@ -20,7 +20,7 @@ use denote.Triple.Spec.{Meets}
 use denote.Triple.Clauses.{closing}
 use Rattle.ins2651_rules.specs.declared.Device.{Device}
 use Rattle.host.proofs.Calls.{reference, Bytes, lent, Promise, Lent, byte-locals, past, held}
-use Rattle.host.proofs.Entry.{Walk, meets-by}
+use Rattle.host.proofs.Lent.{Walk, meets-by}
 use Rattle.host.proofs.Again.{reborrow, calling-again, Lending, again}
 use Rattle.host.proofs.Early.{early, holds, fails}
 use Rattle.host.proofs.Bytes.{values, env, AllStand, further, all-stand, behind, stands, alloc-bytes, pass-bytes, free-bytes}

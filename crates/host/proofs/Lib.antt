@@ -1,7 +1,5 @@
 pub mod Calls
-pub mod Lends
 pub mod Bytes
-pub mod Entry
 pub mod Lent
 pub mod Again
 pub mod Moves

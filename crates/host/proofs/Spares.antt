@@ -22,7 +22,7 @@ use denote.Triple.Clauses.{closing}
 use Rattle.ins2651_rules.specs.declared.Device.{Device}
 use Rattle.ins2651_rules.proofs.Device.Laws as D′
 use Rattle.host.proofs.Calls.{reference, Bytes, Taking, lent, Promise, Lent, byte-locals, copies, past, held}
-use Rattle.host.proofs.Entry.{Walk, meets-by}
+use Rattle.host.proofs.Lent.{Walk, meets-by}
 use Rattle.host.proofs.Again.{reborrow, calling-again, Lending, again}
 use Rattle.host.proofs.Moves.{a-bool, keeps, asks}
 use Rattle.host.proofs.Early.{early, holds, fails}

@@ -20,7 +20,7 @@ abbrev replies : Replies 1
 replies d xs = by-value.readRegister d (xs .0)
 
 kept : Keeps 1 replies fetches
-kept = record { answer = λ d xs. refl; device = λ d xs. refl }
+kept = record { answer = λ d xs. refl; left = λ d xs. refl }
 
 pub fetch-register-spec : {M : Type 1} → stated.statement M
 unfolding code.routine tablesOf

@@ -20,7 +20,7 @@ abbrev replies : Replies 3
 replies d xs = by-value.setPins d (xs .0) (xs .1 .0) (xs .1 .1 .0)
 
 kept : Keeps 3 replies pins
-kept = record { answer = λ d xs. refl; device = λ d xs. refl }
+kept = record { answer = λ d xs. refl; left = λ d xs. refl }
 
 pub pin-spec : {M : Type 1} → stated.statement M
 unfolding code.routine tablesOf

@@ -20,7 +20,7 @@ abbrev replies : Replies 0
 replies d xs = by-value.inRange d
 
 kept : Keeps 0 replies shows-range
-kept = record { answer = λ d xs. refl; device = λ d xs. refl }
+kept = record { answer = λ d xs. refl; left = λ d xs. refl }
 
 pub show-range-spec : {M : Type 1} → stated.statement M
 unfolding code.routine tablesOf
