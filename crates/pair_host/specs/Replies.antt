@@ -1,6 +1,6 @@
 -- How C gets an answer as one number; and what the acts on a lent pair answer and leave, of which its calls are made.
 -- Assumes nothing.
-use Prim.Native.Nat.{ℕ, _+_, _*_}
+use Prim.Native.Nat.{ℕ, _+_, _*_, _/_, _%_}
 use Rattle.joined_rules.specs.declared.Pair.{Pair}
 use Rattle.joined_rules.specs.declared.Joined.{Joined}
 use Rattle.joined_rules.specs.Joining as Joining
@@ -15,3 +15,11 @@ tick p = record { answer = levelsSent (Joining.tick p); pair = Joining.tick p .p
 
 abbrev pub run : Pair → ℕ → PairReply
 run p n = record { answer = Joining.run p n .refusal; pair = Joining.run p n .pair }
+
+-- == as C takes the levels apart ==
+
+abbrev pub levelOfA : ℕ → ℕ
+levelOfA n = n % 2
+
+abbrev pub levelOfB : ℕ → ℕ
+levelOfB n = n / 2
