@@ -17,11 +17,11 @@ use contract.Monad.{fact}
 use types.Kit.{Given, Item, Post, Go, Seq, runs, ‵, raw, _⊛_, some, later, _$_, !, move, drop, use1, split, pick, rewrite, fsplit3, fjoin3, feqI, await}
 use types.Run.{Opds, look, look-raw, init, store-raw, stop, hop, load, of-opd, and-then, assigns, land}
 use sound.WpLaws.{FmC}
-use denote.RattleType.{RattleType, flat, owns}
+use denote.RattleType.{RattleType, flat}
 use denote.Laws.{Is, shows}
 use denote.Builtin.{u16, bool}
 use denote.Signature.{typesAt}
-use denote.Steps.{only, opens, closes, owned, peeks, facts, heard, nothing}
+use denote.Steps.{only, opens, closes, owned, peeks, facts, heard}
 use denote.Struct.Steps.{spelt}
 use denote.Struct.Laws as LL
 use denote.Triple.Statement.{Triple}

@@ -6,7 +6,7 @@ use Rattle.joined_rules.specs.declared.Joined.{Joined}
 use Rattle.joined_rules.specs.Joining as Joining
 use Rattle.pair_host.specs.declared.PairReply.{PairReply}
 
--- the levels that a joined tick sent, as one number: 1 where `a` sent a 1, and 2 where `b` did
+-- the levels that a joined tick sent, as one number: 1 where `a` sent a 1, plus 2 where `b` did
 abbrev pub levelsSent : Joined → ℕ
 levelsSent j = j .b * 2 + j .a
 

@@ -1,5 +1,5 @@
-// A pair of joined devices lent to a C host: each call finds it, advances it in place and answers one number. include/ins2651.h is C's view.
-// Whatever bytes the host lends, the call is what `joined_rules` says of them.
+// A pair of joined devices lent to a C host: each call finds it, advances it in place and answers one number.
+// Whatever bytes the host lends, the call is what `joined_rules` says of them; a refused run hands them back as they were.
 ghost use mathlib.Core.Path.{_≡_};
 ghost use denote.Ref.{now};
 ghost use Rattle.joined_rules.specs.Joining;
@@ -36,7 +36,7 @@ fn run(p: Pair, n: u32) -> PairReply
     }
 }
 
-// A joined tick; answers the levels sent: 1 where `a` sent a 1, and 2 where `b` did.
+// A joined tick; answers the levels sent: 1 where `a` sent a 1, plus 2 where `b` did.
 #[no_mangle]
 pub extern "C" fn ins2651_joined_tick(p: &mut Pair) -> u16
     ensures { λ r. ⌜ (r ≡ levelsSent (Joining.tick (now (p .entry)))) × (now (p .exit) ≡ Joining.tick (now (p .entry)) .pair) ⌝ }
