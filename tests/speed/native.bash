@@ -1,7 +1,21 @@
-# Sourced by tests/speed/run, tests/speed/lent/run and tests/speed/board/run: the proved code of a crate as native code. On x86-64 that is what
-# was built. On another processor, or with SPEED_FROM_IR=1, its LLVM module is compiled for the machine's own: `from_ir` is 1 then.
-# They have `room`, a folder below target/ for what is made, and `fail`, which ends them.
+# Sourced by tests/speed/run and by the `run` of lent, board and pair: the proved code of a crate as native code. On x86-64 that is what was
+# built. On another processor, or with SPEED_FROM_IR=1, its LLVM module is compiled for the machine's own: `from_ir` is 1 then.
+# They have `room`, a folder below target/ for what is made.
 
+fail() {
+    echo "speed: $*" >&2
+    exit 1
+}
+
+# needs TOOL..: each is there
+needs() {
+    local tool
+    for tool; do command -v "$tool" >/dev/null || fail "$tool is missing"; done
+}
+
+export LC_ALL=C
+needs rt
+mkdir -p "$room"
 from_ir=${SPEED_FROM_IR:-0}
 [ "$(uname -m)" = x86_64 ] || from_ir=1
 kit=$(dirname "$(dirname "$(rt doc)")")
@@ -66,4 +80,37 @@ native_object() {
     keeping_toolchain
     keep_module "${@:3}"
     compile_module "$1"
+}
+
+# proved_library CRATE: what is to be linked of a library for C, in `proved`, and what that is, in `way`
+proved_library() {
+    local archive=target/staticlib/lib$1.a
+    built_before "$archive" "rt staticlib $1"
+    if [ "$from_ir" = 1 ]; then
+        proved=$room/$1.o
+        native_object "$proved" "$archive" "$1" lib.rt --crate-type staticlib -o "$room/kept.a"
+        way="the LLVM module of $archive, compiled for $(uname -m) by the kit's clang at -O3"
+    else
+        proved=$archive
+        way="$archive as built, native x86-64"
+    fi
+}
+
+export CARGO_TARGET_DIR=$PWD/target/tests
+crate=(--quiet --offline --locked --manifest-path tests/speed/Cargo.toml)
+plain_way="Rust, cargo build --release (opt-level 3, default flags), native $(uname -m)"
+
+# plain_tested [TEST]: the plain code does what the model does
+plain_tested() {
+    cargo test "${crate[@]}" ${1:+--test "$1"} >"$room/test.log" 2>&1 || fail "the plain code does not do what the model does; $room/test.log says where"
+}
+
+# times_of PROGRAM PROVED..: builds a program of src/bin with the proved code linked in, and runs it
+times_of() {
+    local sum file links=()
+    # cargo does not see that the proved code changed, but does see its checksum
+    sum=$(cat "${@:2}" | cksum)
+    for file in "${@:2}"; do links+=(-C "link-arg=$PWD/$file"); done
+    cargo rustc --release "${crate[@]}" --features proved --bin "$1" -- "${links[@]}" -C metadata="${sum%% *}"
+    "$CARGO_TARGET_DIR/release/$1"
 }

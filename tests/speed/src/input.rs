@@ -1,12 +1,19 @@
-//! The inputs of the speed test: a line that stays idle, one that is full both ways, and one in break.
+//! The inputs of the speed test: a line that is idle, one whose ends have no mode or are off, one in break, and one that is
+//! full both ways.
+
+use crate::session::MOST_LINES;
 
 /// A mode 1, and the ticks that one of its frames lasts ("Sending").
 pub struct Frames {
-    mode1: u8,
-    ticks: u16,
+    pub mode1: u8,
+    pub ticks: u16,
 }
 
 /// 8 bits, even parity, one stop bit: 11 bits a frame.
+pub const FULL_1: Frames = Frames {
+    mode1: 125,
+    ticks: 11,
+};
 pub const FULL_16: Frames = Frames {
     mode1: 126,
     ticks: 11 * 16,
@@ -18,7 +25,41 @@ pub const FULL_64: Frames = Frames {
 
 /// Both ends freshly set up, then `runs` of the most ticks that a record has.
 pub fn idle(runs: usize) -> String {
-    set_up(FULL_16.mode1) + &"L\t65535\n".repeat(runs) + STATUS
+    set_up(FULL_16.mode1) + &long_runs(runs) + STATUS
+}
+
+/// Both ends as after reset: no mode was ever set.
+pub fn unset(runs: usize) -> String {
+    long_runs(runs) + STATUS
+}
+
+/// Both ends freshly set up, then with transmit and receive off.
+pub fn off(runs: usize) -> String {
+    commanded(0, runs)
+}
+
+/// Both ends freshly set up, then in break.
+pub fn broken(runs: usize) -> String {
+    commanded(47, runs)
+}
+
+fn commanded(command: u8, runs: usize) -> String {
+    let commands = format!("W\tA\t3\t{command}\nW\tB\t3\t{command}\n");
+    set_up(FULL_16.mode1) + &commands + &long_runs(runs) + STATUS
+}
+
+/// As many lines as are taken, all of them ticks but for the set-up and the status.
+pub fn whole_idle() -> String {
+    idle(MOST_LINES - idle(0).lines().count())
+}
+
+/// As many lines as are taken, all of them ticks.
+pub fn whole_unset() -> String {
+    long_runs(MOST_LINES)
+}
+
+fn long_runs(runs: usize) -> String {
+    "L\t65535\n".repeat(runs)
 }
 
 /// Both ends send without a pause: a character is written while the one before it is sent, and each is read before the
@@ -44,13 +85,6 @@ pub fn apart(frames: &Frames, characters: usize) -> String {
     text + STATUS
 }
 
-/// Both ends freshly set up, then in break for `runs` of the most ticks.
-pub fn broken(runs: usize) -> String {
-    let mut text = set_up(FULL_16.mode1) + "W\tA\t3\t47\nW\tB\t3\t47\n";
-    text += &"L\t65535\n".repeat(runs);
-    text + STATUS
-}
-
 /// The error flags are in the status: they show a character that was lost or taken wrongly.
 const STATUS: &str = "R\tA\t1\nR\tB\t1\n";
 
@@ -69,8 +103,13 @@ fn write_both(k: usize) -> String {
     write("A", k) + &write("B", k)
 }
 
-/// All byte values in turn, other ones for A than for B.
 fn write(unit: &str, k: usize) -> String {
-    let value = if unit == "A" { 7 * k + 1 } else { 13 * k + 85 };
-    format!("W\t{unit}\t0\t{}\n", value % 256)
+    let [a, b] = characters(k);
+    let value = if unit == "A" { a } else { b };
+    format!("W\t{unit}\t0\t{value}\n")
+}
+
+/// What A and B send: all byte values in turn, other ones for A than for B.
+pub fn characters(k: usize) -> [u8; 2] {
+    [7 * k + 1, 13 * k + 85].map(|value| value as u8)
 }

@@ -293,6 +293,18 @@ impl Device {
         unsafe { std::mem::transmute(bytes) }
     }
 
+    /// Another number in one byte.
+    pub fn spoil(&mut self, place: usize, value: u8) {
+        assert!(place < DEVICE_BYTES);
+        // SAFETY: the byte is the device's, and any bytes are one.
+        unsafe {
+            std::ptr::from_mut(self)
+                .cast::<u8>()
+                .add(place)
+                .write(value)
+        };
+    }
+
     #[inline(always)]
     pub fn in_range(&self) -> bool {
         let (p, f) = (&self.pins, &self.flags);
@@ -308,7 +320,7 @@ impl Device {
 
     /// A device out of range is taken as one just reset.
     #[inline(always)]
-    fn settle(&mut self) {
+    pub(crate) fn settle(&mut self) {
         if !self.in_range() {
             *self = Device::RESET;
         }
@@ -446,10 +458,29 @@ impl Device {
         0
     }
 
-    /// The level that is sent ("Sending").
+    /// The level that is sent.
     #[inline(always)]
     pub fn transmit(&mut self) -> u8 {
         self.settle();
+        self.transmit_tick()
+    }
+
+    /// The refusal.
+    #[inline(always)]
+    pub fn receive(&mut self, level: u8) -> u8 {
+        if level > 1 {
+            return NO_SUCH_LEVEL;
+        }
+        self.settle();
+        self.receive_tick(level);
+        0
+    }
+
+    // The ticks of a device in range; a level is at most 1.
+
+    /// The level that is sent ("Sending").
+    #[inline(always)]
+    pub(crate) fn transmit_tick(&mut self) -> u8 {
         if self.sender.frame.place > 0 {
             return self.frame_tick();
         }
@@ -488,13 +519,9 @@ impl Device {
         level
     }
 
-    /// The refusal of a receive tick ("Receiving").
+    /// "Receiving".
     #[inline(always)]
-    pub fn receive(&mut self, level: u8) -> u8 {
-        if level > 1 {
-            return NO_SUCH_LEVEL;
-        }
-        self.settle();
+    pub(crate) fn receive_tick(&mut self, level: u8) {
         let (r, receiver) = (&self.registers, &mut self.receiver);
         let state = &mut receiver.state;
         if r.command & RECEIVE == 0 || self.pins.dcd == 1 || r.accepted == 0 {
@@ -509,7 +536,6 @@ impl Device {
             let internal = r.mode2 & INTERNAL_RECEIVE_CLOCK != 0;
             receiver.start(Format::decode(r.mode1, internal));
         }
-        0
     }
 
     fn look(&mut self, level: u8) {

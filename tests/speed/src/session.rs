@@ -4,7 +4,7 @@ use crate::chip::{joined_ticks, Chip};
 use std::io::Write;
 
 /// Lines taken.
-const MOST_LINES: usize = 65_535;
+pub const MOST_LINES: usize = 65_535;
 
 struct Pair {
     a: Chip,

@@ -3,7 +3,8 @@
 use model::chip::Chip as Slow;
 use model::Generator;
 use speed::chip::{joined_ticks, Chip};
-use speed::input::{apart, broken, full, idle, FULL_16, FULL_64};
+use speed::input::*;
+use speed::session::MOST_LINES;
 
 /// One chip both ways; each call is answered alike.
 struct Twin {
@@ -178,8 +179,23 @@ fn the_plain_session_is_the_models() {
     ] {
         same_answer(input.to_string());
     }
-    assert!(same_answer(idle(1)).ends_with("R\tA\t1\t197\nR\tB\t1\t197\nN\t12\t0\n"));
-    assert!(same_answer(broken(1)).ends_with("R\tA\t1\t231\nR\tB\t1\t231\nN\t14\t0\n"));
+    for (input, status, lines) in [
+        (idle(1), 197, 12),
+        (unset(1), 0, 3),
+        (off(1), 196, 14),
+        (broken(1), 231, 14),
+    ] {
+        let answer = format!("R\tA\t1\t{status}\nR\tB\t1\t{status}\nN\t{lines}\t0\n");
+        assert_eq!(same_answer(input), answer);
+    }
+}
+
+#[test]
+fn whole_sessions_are_as_long_as_one_can_be() {
+    for (input, runs) in [(whole_idle(), MOST_LINES - 11), (whole_unset(), MOST_LINES)] {
+        assert_eq!(input.lines().count(), MOST_LINES);
+        assert_eq!(input.matches("L\t65535\n").count(), runs);
+    }
 }
 
 /// Each of 300 characters is read at the other end, and no error flag is set.
@@ -203,6 +219,7 @@ fn nothing_is_lost(session: String) {
 
 #[test]
 fn a_full_line_is_the_models() {
+    nothing_is_lost(full(&FULL_1, 300));
     for frames in [&FULL_16, &FULL_64] {
         nothing_is_lost(full(frames, 300));
         nothing_is_lost(apart(frames, 300));

@@ -6,10 +6,10 @@
 
 use speed::board::{self, Board, CHANNELS};
 use speed::lent::{Device, DEVICE_BYTES};
+use speed::turns::by_turns;
 use std::hint::black_box;
 use std::process::ExitCode;
 use std::slice::from_raw_parts_mut;
-use std::time::{Duration, Instant};
 
 // include/interfacer3.h.
 extern "C" {
@@ -107,7 +107,11 @@ unsafe extern "C" fn plain_pins(
     dcd: u8,
     cts: u8,
 ) -> u16 {
-    refusal(board::set_pins(from_raw_parts_mut(r, n), k, [dsr, dcd, cts]))
+    refusal(board::set_pins(
+        from_raw_parts_mut(r, n),
+        k,
+        [dsr, dcd, cts],
+    ))
 }
 unsafe extern "C" fn plain_transmit(_: *mut Board, r: *mut Device, n: usize, k: u8) -> u16 {
     board::transmit(from_raw_parts_mut(r, n), k)
@@ -283,7 +287,6 @@ fn answer_alike() -> bool {
 /// The calls on one room, which a frame and a character of 64 ticks a bit outlast, and those between two looks at the clock.
 const STRETCH: u32 = 512;
 const BATCH: u32 = 8 * STRETCH;
-const A_ROW: Duration = Duration::from_secs(1);
 
 /// Each channel set up with 8 bits, even, 64 ticks a bit; where `under_way`, behind the look at the start, with a frame and
 /// a character under way.
@@ -417,50 +420,19 @@ const ROWS: [(&str, Batch, bool); 14] = [
     ),
 ];
 
-/// The best time of one side so far, and its checksum.
-struct Timed {
-    by: Calls,
-    begun: Rig,
-    best: Duration,
-    sum: u32,
-}
-
-impl Timed {
-    fn new(by: Calls, under_way: bool) -> Timed {
-        Timed {
-            begun: begun(&by, under_way),
-            by,
-            best: Duration::MAX,
-            sum: 0,
-        }
-    }
-
-    fn take_turn(&mut self, batch: Batch) {
-        let from = Instant::now();
-        self.sum = batch(black_box(&self.by), black_box(&self.begun));
-        self.best = self.best.min(from.elapsed());
-    }
-
-    fn nanoseconds(&self) -> f64 {
-        self.best.as_nanos() as f64 / f64::from(BATCH)
-    }
-}
-
 /// Whether the checksums are the same.
 fn measure((title, batch, under_way): (&str, Batch, bool)) -> bool {
-    let mut proved = Timed::new(PROVED, under_way);
-    let mut plain = Timed::new(PLAIN, under_way);
-    let until = Instant::now() + A_ROW;
-    while Instant::now() < until {
-        proved.take_turn(batch);
-        plain.take_turn(batch);
-    }
-    let (a, b) = (proved.nanoseconds(), plain.nanoseconds());
+    let timed = |by: &'static Calls| {
+        let begun = begun(by, under_way);
+        move || batch(black_box(by), black_box(&begun))
+    };
+    let (times, alike) = by_turns(timed(&PROVED), timed(&PLAIN));
+    let [a, b] = times.map(|time| time / f64::from(BATCH));
     println!("{title:<30} {a:9.2} {b:9.2} {:9.2}", a / b);
-    if proved.sum != plain.sum {
+    if !alike {
         println!("board: the answers of '{title}' differ");
     }
-    proved.sum == plain.sum
+    alike
 }
 
 fn main() -> ExitCode {

@@ -1,0 +1,37 @@
+//! The plain pair does what the independent model does on any two devices.
+
+use model::calls::{Call, Lent};
+use model::generate::ranges::{device, draws, spoilt};
+use speed::lent::Device;
+use speed::pair::Pair;
+
+/// A joined tick by the calls of each device.
+fn tick([a, b]: &mut [Lent; 2]) -> u16 {
+    let (from_a, from_b) = (a.call(&Call::Transmit).1[0], b.call(&Call::Transmit).1[0]);
+    a.call(&Call::Receive(from_b));
+    b.call(&Call::Receive(from_a));
+    u16::from(2 * from_b + from_a)
+}
+
+#[test]
+fn the_plain_pair_is_the_models() {
+    for index in 0..3000 {
+        let draws = &mut draws(index);
+        let bytes = [(); 2].map(|()| {
+            let sound = device(draws);
+            [spoilt(draws, &sound).1, sound][usize::from(draws.below(8) > 0)]
+        });
+        let [a, b] = bytes.map(Device::of_bytes);
+        let (mut fast, mut slow) = (Pair { a, b }, bytes.map(Lent::of_bytes));
+        assert_eq!(fast.joined_run(65_536), 16);
+        assert_eq!(fast.joined_run(0), 0);
+        assert_eq!(fast, Pair { a, b });
+        for n in [0, 1, draws.below(30), draws.below(1500)] {
+            assert_eq!(fast.joined_tick(), tick(&mut slow));
+            assert_eq!(fast.joined_run(n), 0);
+            (0..n).for_each(|_| _ = tick(&mut slow));
+            let [a, b] = slow.each_ref().map(|lent| Device::of_bytes(lent.bytes()));
+            assert_eq!(fast, Pair { a, b });
+        }
+    }
+}
