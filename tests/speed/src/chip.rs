@@ -287,7 +287,7 @@ impl Chip {
     }
 
     /// The level that a transmit tick sends ("Sending").
-    #[inline]
+    #[inline(always)]
     pub fn transmit(&mut self) -> bool {
         if self.frame.ticks > 0 {
             return self.frame_tick();
@@ -318,7 +318,7 @@ impl Chip {
     }
 
     /// A receive tick with the line at `level` ("Receiving").
-    #[inline]
+    #[inline(always)]
     pub fn receive(&mut self, level: bool) {
         if self.command & RECEIVE == 0 || self.dcd || !self.mode_set {
             self.receiver.phase = Phase::Waiting;
@@ -410,12 +410,20 @@ impl Chip {
     }
 }
 
-/// Joined ticks, one at a time: both transmit ticks, then each receiver takes the other's level.
+/// A joined tick: both transmit ticks, then each receiver takes the other's level. The levels of `a` and `b`. It is
+/// inlined with its four ticks, which the compiler by itself does in some programs only.
+#[inline(always)]
+pub fn joined_tick(a: &mut Chip, b: &mut Chip) -> [bool; 2] {
+    let from_a = a.transmit();
+    let from_b = b.transmit();
+    a.receive(from_b);
+    b.receive(from_a);
+    [from_a, from_b]
+}
+
+/// Joined ticks, one at a time.
 pub fn joined_ticks(a: &mut Chip, b: &mut Chip, count: u16) {
     for _ in 0..count {
-        let from_a = a.transmit();
-        let from_b = b.transmit();
-        a.receive(from_b);
-        b.receive(from_a);
+        joined_tick(a, b);
     }
 }

@@ -7,7 +7,7 @@ mod alike;
 mod proved;
 
 use proved::Proved;
-use speed::chip::{joined_ticks, Chip};
+use speed::chip::{joined_tick, joined_ticks, Chip};
 use speed::input::{characters, Frames, FULL_1, FULL_16, FULL_64};
 use speed::pair::Unit::{self, A, B};
 use speed::turns::by_turns;
@@ -60,10 +60,8 @@ impl Side for Plain {
     }
 
     fn tick(&mut self) -> u16 {
-        let (from_a, from_b) = (self.a.transmit(), self.b.transmit());
-        self.a.receive(from_b);
-        self.b.receive(from_a);
-        2 * u16::from(from_b) + u16::from(from_a)
+        let [a, b] = joined_tick(&mut self.a, &mut self.b);
+        2 * u16::from(b) + u16::from(a)
     }
 
     fn run(&mut self, n: u16) {
