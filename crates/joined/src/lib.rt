@@ -4,8 +4,10 @@
 ghost use mathlib.Core.Path.{_≡_};
 ghost use Rattle.joined_rules.specs.Joining;
 ghost use Rattle.joined_rules.specs.Joining.{settledPair, joinedTick, joinedTicks, ticks};
+ghost use Rattle.joined_rules.specs.TwoWays;
 ghost use Rattle.joined_rules.specs.TwoWays.{endsOf, wayOf, withEnds};
 ghost use Rattle.way_rules.specs.Along.{wayTicks};
+ghost use Rattle.way_rules.specs.Calm.{wayStands};
 use ins2651_rules::Device;
 use ins2651_rules::Flags;
 use ins2651_rules::Ticked;
@@ -121,6 +123,29 @@ fn ticks_on(p: Pair, n: u16) -> Pair
         a: with_ends(p.a, there, back),
         b: with_ends(p.b, back, there),
     }
+}
+
+// Whether no tick changes the way from a to b.
+fn way_stands(a: Device, b: Device) -> bool
+    ensures { λ r. ⌜ r ≡ wayStands (endsOf a b) (wayOf a b) ⌝ }
+{
+    let ready = ins2651::may_start(a);
+    let broken = ins2651::break_on(a);
+    let f = ins2651::send_format(a.registers);
+    let live = ins2651::listening(b);
+    way::sender_stands(a.sender, ready, broken, f.factor)
+        & way::receiver_stands(b.receiver, live, !(ready & broken))
+}
+
+// Whether no tick changes the pair, in range on both sides: a host need not store it after a run. The ranges are asked last.
+pub fn stands(p: Pair) -> bool
+    ensures { λ r. ⌜ r ≡ TwoWays.stands p ⌝ }
+{
+    let ways = way_stands(p.a, p.b) & way_stands(p.b, p.a);
+    if ways {
+        return ins2651::in_range(p.a) & ins2651::in_range(p.b);
+    }
+    false
 }
 
 // n joined ticks; the ranges are checked once.

@@ -8,3 +8,4 @@ pub mod Order
 pub mod Sequence
 pub mod Concrete
 pub mod TwoWays
+pub mod Standing

@@ -81,7 +81,7 @@ ticks-add zero n p = rw zero-add
 ticks-add (suc m) n p = rw suc-add (ticks-add m n (tick p .pair))
 
 -- of a pair in range
-in-range-ticks : (n : ℕ) (p : Pair) → BothIn p → ticks n p ≡ joinedTicks n p
+pub in-range-ticks : (n : ℕ) (p : Pair) → BothIn p → ticks n p ≡ joinedTicks n p
 in-range-ticks zero p h = refl
 in-range-ticks (suc n) p h =
     ap (λ (o : Joined). ticks n (o .pair)) (tick-is p ∙ ap joinedTick (settled-pair p h)) ∙ in-range-ticks n (joinedTick p .pair) (joined-in p h)

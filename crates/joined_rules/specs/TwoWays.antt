@@ -2,13 +2,16 @@
 -- independent: a run of the pair is a run of each (proofs/TwoWays.antt, `two-ways`).
 -- Assumes nothing.
 use Prim.Native.Nat.{ℕ}
+use mathlib.Core.Bool.{Bool, _&&_}
 use Rattle.way_rules.specs.declared.Ends.{Ends}
 use Rattle.way_rules.specs.declared.Way.{Way}
 use Rattle.way_rules.specs.Along.{wayTicks}
+use Rattle.way_rules.specs.Calm.{wayStands}
 use Rattle.ins2651_rules.specs.declared.Device.{Device}
 use Rattle.ins2651_rules.specs.Shape.{withParts, withErrors, withEmpty}
 use Rattle.ins2651_rules.specs.Modes.{sendFormat, receiveFormat}
 use Rattle.ins2651_rules.specs.Conditions.{transmitEnabled, mayStart, breakOn, listening}
+use Rattle.ins2651_rules.specs.Ranges.{inRange}
 use Rattle.joined_rules.specs.declared.Pair.{Pair}
 
 -- the way from d to e: what its ticks go by
@@ -46,3 +49,9 @@ withWays p there back = record { a = withEnds (p .a) there back; b = withEnds (p
 unfoldable pub alongBoth : ℕ → Pair → Pair
 alongBoth n p =
     withWays p (wayTicks (endsOf (p .a) (p .b)) n (wayOf (p .a) (p .b))) (wayTicks (endsOf (p .b) (p .a)) n (wayOf (p .b) (p .a)))
+
+-- no tick changes the pair: both devices are in range, and both ways stand
+unfoldable pub stands : Pair → Bool
+stands p =
+    wayStands (endsOf (p .a) (p .b)) (wayOf (p .a) (p .b)) && wayStands (endsOf (p .b) (p .a)) (wayOf (p .b) (p .a))
+    && inRange (p .a) && inRange (p .b)

@@ -13,7 +13,7 @@ ghost use Rattle.way_rules.specs.Parts.{withoutFrame, withMark, resting, assemb
 ghost use Rattle.way_rules.specs.Along.{sent, received, sentBy, heardBy, heardAs, wayTick, wayTicks};
 ghost use Rattle.way_rules.specs.Calm;
 ghost use Rattle.way_rules.specs.Leap.{lastLook, soFar, sameBits, bothBusy, inStep, flyAt, leapTicks, Ahead, Leaps, Moves};
-ghost use Rattle.way_rules.specs.Calm.{placesLeft, senderCalm, bitLeft, senderKeeps, senderSkipped, heardCalm, wayCalm, waySkipped};
+ghost use Rattle.way_rules.specs.Calm.{placesLeft, senderCalm, bitLeft, senderKeeps, senderSkipped, heardCalm, wayCalm, waySkipped, senderStands, receiverStands};
 use line_rules::Format;
 use link_rules::Frame;
 use link_rules::ReceiverHalf;
@@ -479,6 +479,26 @@ fn skip(e: Ends, k: u16, w: Way) -> Way
         return w;
     }
     skipped(e, k, w)
+}
+
+// == a way that stands ==
+
+// The sender is at rest with nothing that may start, or in a break whose guard stands.
+pub fn sender_stands(s: SenderHalf, ready: bool, broken: bool, factor: u8) -> bool
+    ensures { λ r. ⌜ r ≡ senderStands s ready broken factor ⌝ }
+{
+    let free = !(0 < s.frame.place);
+    if ready & broken {
+        return free & (s.guard == factor);
+    }
+    free & ((s.guard == 0) & !(ready & (0 < s.full)))
+}
+
+// The receiver has no character under way, and is off or stays at the level of the line.
+pub fn receiver_stands(r: ReceiverHalf, live: bool, level: bool) -> bool
+    ensures { λ b. ⌜ b ≡ receiverStands r live level ⌝ }
+{
+    clear(r) & (r.state.phase == line::number(live & level))
 }
 
 // == a frame that is followed ==

@@ -104,6 +104,22 @@ wayCalm e w = least (heardCalm e w) (senderCalm e (w .sender))
 unfoldable pub waySkipped : Ends → ℕ → Way → Way
 waySkipped e k w = record { sender = senderSkipped e k (w .sender); receiver = receiverSkipped k (w .receiver); empty = w .empty; faults = w .faults }
 
+-- == a way that stands: its ticks do not even count ==
+
+-- at rest with nothing that may start, or in a break whose guard stands
+abbrev pub senderStands : SenderHalf → Bool → Bool → ℕ → Bool
+senderStands s ready broken factor =
+    not (on (s .frame .place)) && cond (ready && broken) (eqb (s .guard) factor) (eqb (s .guard) 0 && not (ready && on (s .full)))
+
+-- no character under way: off, or searching on a line at 1, or waiting on one at 0
+abbrev pub receiverStands : ReceiverHalf → Bool → Bool → Bool
+receiverStands r live level = clear r && eqb (r .state .phase) (bit (live && level))
+
+unfoldable pub wayStands : Ends → Way → Bool
+wayStands e w = senderStands (w .sender) (e .ready) (e .broken) (e .send .factor) && receiverStands (w .receiver) (e .live) (not (breaks e))
+
+-- == what is said of it ==
+
 -- a tick is calm exactly where it only counts: none that counts is left to be done by itself, and none that does more is skipped
 pub record Exactly (e : Ends) (w : Way) : Type 0 where
   pub counts : 1 ≤ wayCalm e w → wayTick e w ≡ waySkipped e 1 w

@@ -1,0 +1,64 @@
+-- A way that stands is left as it is by any number of ticks.
+-- Assumes nothing.
+use Prim.Native.Nat.{ℕ, zero, suc, _-_, _≤_}
+use native.Mathlib.Omega.{arith}
+use mathlib.Core.Path.{_≡_, refl, ap, ap₂, sym, _∙_}
+use mathlib.Core.Bool.{Bool, true, false, cond, not, _&&_}
+use lib.Dec.{eqb}
+use borrow.Author.Tests.{eqb-true}
+use Rattle.line_rules.specs.Sending.{bit, on}
+use Rattle.line_rules.proofs.Choice.{not-so}
+use Rattle.line_rules.proofs.Table.{both}
+use Rattle.link_rules.specs.declared.SenderHalf.{SenderHalf}
+use Rattle.link_rules.specs.declared.ReceiverHalf.{ReceiverHalf}
+use Rattle.link_rules.specs.declared.Received.{Received}
+use Rattle.link_rules.specs.declared.Sent.{Sent}
+use Rattle.link_rules.specs.Parts.{withGuard}
+use Rattle.link_rules.specs.Transmitting.{breakTick, idleTick, transmit}
+use Rattle.link_rules.specs.Hearing.{receive}
+use Rattle.link_rules.specs.Within.{clear}
+use Rattle.link_rules.proofs.AtRest.{resting, quietly, is-clear, Stays, rests-on, stays-off, rest-stays}
+use Rattle.way_rules.specs.declared.Ends.{Ends}
+use Rattle.way_rules.specs.declared.Way.{Way}
+use Rattle.way_rules.specs.Along.{sent, received, sentBy, heardBy, wayTick, wayTicks}
+use Rattle.way_rules.specs.Calm.{breaks, senderStands, receiverStands, wayStands}
+use Rattle.way_rules.proofs.Senders.{break-tick, rest-tick, unguarded}
+
+-- the sender's tick sends the level of its break or of its rest, and changes nothing
+sender-stands : (e : Ends) (s : SenderHalf) → senderStands s (e .ready) (e .broken) (e .send .factor) ≡ true
+    → transmit s (e .ready) (e .broken) (e .send) ≡ idleTick s (not (breaks e)) (s .guard)
+sender-stands e s h = go (breaks e) refl
+  where
+    free : on (s .frame .place) ≡ false
+    free = not-so _ (both (not (on (s .frame .place))) _ h .0)
+
+    go : (b : Bool) → breaks e ≡ b → transmit s (e .ready) (e .broken) (e .send) ≡ idleTick s (not (breaks e)) (s .guard)
+    go true b =
+        let t = both (not (on (s .frame .place))) _ h .1 in
+        let g : s .guard ≡ e .send .factor = eqb-true _ _ (rw b at t) in
+        break-tick e s free b ∙ ap₂ (λ (x : Bool) (k : ℕ). idleTick s (not x) k) (sym b) (sym g)
+    go false b =
+        let t = both (not (on (s .frame .place))) _ h .1 in
+        let r = both (eqb (s .guard) 0) _ (rw b at t) in
+        let g : s .guard ≡ 0 = eqb-true _ _ (r .0) in
+        rest-tick e s free b (ap on g) (not-so _ (r .1))
+        ∙ ap₂ (λ (x : Bool) (k : ℕ). idleTick s (not x) k) (sym b) (let q : s .guard - 1 ≡ s .guard = omega (arith, g) in q)
+
+receiver-stands : (r : ReceiverHalf) (live level : Bool) (e : Ends) → e .live ≡ live → receiverStands r live level ≡ true → receive r live (e .hear) level ≡ quietly r
+receiver-stands r true level e l h =
+    let t = both (clear r) _ h in
+    rest-stays r (bit level) true level (e .hear) (rests-on level) (is-clear r (bit level) (eqb-true _ _ (t .1)) (t .0))
+receiver-stands r false level e l h =
+    let t = both (clear r) _ h in
+    rest-stays r 0 false level (e .hear) (stays-off level) (is-clear r 0 (eqb-true _ _ (t .1)) (t .0))
+
+tick-stands : (e : Ends) (w : Way) → wayStands e w ≡ true → wayTick e w ≡ w
+unfolding wayStands wayTick
+tick-stands e w h =
+    let t = both (senderStands (w .sender) (e .ready) (e .broken) (e .send .factor)) _ h in
+    ap (λ (o : Sent). heardBy (sentBy e w o) (received e w (o .level))) (sender-stands e (w .sender) (t .0))
+    ∙ ap (heardBy w) (receiver-stands (w .receiver) (e .live) (not (breaks e)) e refl (t .1))
+
+pub way-stands : (e : Ends) (n : ℕ) (w : Way) → wayStands e w ≡ true → wayTicks e n w ≡ w
+way-stands e zero w h = refl
+way-stands e (suc n) w h = ap (wayTicks e n) (tick-stands e w h) ∙ way-stands e n w h
