@@ -2,6 +2,8 @@
 // Every call takes any number in any field. A joined tick is never refused; a run of more than 65535 is, with 16, and hands the pair back
 // as given. A device out of range is taken as one just reset, but by a run of 0, which changes nothing.
 ghost use mathlib.Core.Path.{_≡_};
+ghost use mathlib.Core.Bool.{_&&_};
+ghost use Rattle.ins2651_rules.specs.Ranges.{inRange};
 ghost use Rattle.joined_rules.specs.Joining;
 ghost use Rattle.joined_rules.specs.Joining.{settledPair, joinedTick, joinedTicks, ticks};
 ghost use Rattle.joined_rules.specs.TwoWays;
@@ -25,6 +27,13 @@ fn settle(p: Pair) -> Pair
         a: ins2651::settle(p.a),
         b: ins2651::settle(p.b),
     }
+}
+
+// Whether both devices are in range.
+fn sound(p: Pair) -> bool
+    ensures { λ r. ⌜ r ≡ (inRange (p .a) && inRange (p .b)) ⌝ }
+{
+    ins2651::in_range(p.a) & ins2651::in_range(p.b)
 }
 
 // What both transmit ticks lead to.
@@ -143,17 +152,20 @@ pub fn stands(p: Pair) -> bool
 {
     let ways = way_stands(p.a, p.b) & way_stands(p.b, p.a);
     if ways {
-        return ins2651::in_range(p.a) & ins2651::in_range(p.b);
+        return sound(p);
     }
     false
 }
 
-// n joined ticks; the ranges are checked once.
+// n joined ticks; the ranges are checked once, and a pair in range is not copied.
 fn ticks_from(p: Pair, n: u16) -> Pair
     ensures { λ r. ⌜ r ≡ ticks n p ⌝ }
 {
     if n == 0 {
         return p;
+    }
+    if sound(p) {
+        return ticks_on(p, n);
     }
     ticks_on(settle(p), n)
 }

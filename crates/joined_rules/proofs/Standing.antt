@@ -1,7 +1,7 @@
 -- A pair that stands is left as it is by any number of joined ticks.
 -- Assumes nothing.
 use Prim.Native.Nat.{ℕ}
-use mathlib.Core.Path.{_≡_, refl, ap, ap₂, sym, _∙_}
+use mathlib.Core.Path.{_≡_, ap, ap₂, sym, _∙_}
 use mathlib.Core.Bool.{Bool, true, false, _&&_}
 use Rattle.line_rules.proofs.Table.{both}
 use Rattle.way_rules.specs.declared.Way.{Way}
@@ -26,16 +26,14 @@ stands-stays p n h =
     ∙ two-ways n p
     ∙ ap₂ (withWays p) (way-stands (endsOf (p .a) (p .b)) n (wayOf (p .a) (p .b)) (s .0)) (way-stands (endsOf (p .b) (p .a)) n (wayOf (p .b) (p .a)) (s .1))
 
--- as the code puts it together
-module _ (p : Pair) (x y a b : Bool) (there : x ≡ wayStands (endsOf (p .a) (p .b)) (wayOf (p .a) (p .b))) (back : y ≡ wayStands (endsOf (p .b) (p .a)) (wayOf (p .b) (p .a)))
-    (in-a : a ≡ inRange (p .a)) (in-b : b ≡ inRange (p .b)) where
-  all-of : (x && y && a && b) ≡ stands p
+-- as the code puts it together: the ways, and where both stand the ranges
+module _ (p : Pair) (x y : Bool) (there : x ≡ wayStands (endsOf (p .a) (p .b)) (wayOf (p .a) (p .b))) (back : y ≡ wayStands (endsOf (p .b) (p .a)) (wayOf (p .b) (p .a))) where
+  all-of : (x && y && inRange (p .a) && inRange (p .b)) ≡ stands p
   unfolding stands
-  all-of = ap₂ (λ (s r : Bool). s && r) (ap₂ (λ (s r : Bool). s && r) (ap₂ (λ (s r : Bool). s && r) there back) in-a) in-b
+  all-of = ap₂ (λ (s r : Bool). s && r && inRange (p .a) && inRange (p .b)) there back
 
-  pub stands-in : (x && y) ≡ true → (a && b) ≡ stands p
-  stands-in w = ap (λ (s : Bool). s && a && b) (sym w) ∙ all-of
+  pub stands-in : (x && y) ≡ true → (inRange (p .a) && inRange (p .b)) ≡ stands p
+  stands-in w = ap (λ (s : Bool). s && inRange (p .a) && inRange (p .b)) (sym w) ∙ all-of
 
-pub stands-not : (p : Pair) (x y : Bool) → x ≡ wayStands (endsOf (p .a) (p .b)) (wayOf (p .a) (p .b)) → y ≡ wayStands (endsOf (p .b) (p .a)) (wayOf (p .b) (p .a))
-    → (x && y) ≡ false → false ≡ stands p
-stands-not p x y there back w = ap (λ (s : Bool). s && inRange (p .a) && inRange (p .b)) (sym w) ∙ all-of p x y (inRange (p .a)) (inRange (p .b)) there back refl refl
+  pub stands-not : (x && y) ≡ false → false ≡ stands p
+  stands-not w = ap (λ (s : Bool). s && inRange (p .a) && inRange (p .b)) (sym w) ∙ all-of

@@ -1,11 +1,12 @@
--- `joined::ticks_from` meets its contract: an empty run leaves the pair as given, any other runs the pair settled.
+-- `joined::ticks_from` meets its contract: an empty run leaves the pair as given, any other runs a pair in range as it is, or the pair settled.
 -- Assumes nothing.
+use Prim.Native.Nat.{ℕ}
 use native.Mathlib.Omega.{arith}
 use mathlib.Core.Path.{_≡_, ap, sym, _∙_}
-use Prim.Native.Nat.{ℕ}
 use borrow.Author.Needs.{needs}
+use Rattle.line_rules.proofs.Table.{both}
 use Rattle.joined_rules.specs.Joining.{ticks, joinedTicks}
-use Rattle.joined_rules.proofs.Runs.{settled-ticks}
+use Rattle.joined_rules.proofs.Runs.{in-range-ticks, settled-ticks}
 use Rattle.joined.proofs.ticks_from.Statement.{statement}
 use Rattle.joined.proofs.ticks_from.Tie as tie
 
@@ -14,9 +15,15 @@ returns c = let e : c .before .args .n ≡ 0 = omega (arith, c .if1 .taken) in s
 
 returns-2 : tie.Need-returns-2
 returns-2 c =
+    let t = both _ _ (sym (c .before .before .sound .ensures) ∙ c .before .if2 .taken) in
     c .ticks-on .ensures
-    ∙ ap (joinedTicks (c .before .before .before .args .n)) (c .before .settle .ensures)
-    ∙ settled-ticks (c .before .before .before .args .n) (c .before .before .before .args .p) (omega (arith, c .before .before .if1 .left))
+    ∙ sym (in-range-ticks (c .before .before .before .before .args .n) (c .before .before .before .before .args .p) (record { a = t .0; b = t .1 }))
+
+returns-3 : tie.Need-returns-3
+returns-3 c =
+    c .ticks-on2 .ensures
+    ∙ ap (joinedTicks (c .before .before .before .before .before .args .n)) (c .before .settle .ensures)
+    ∙ settled-ticks (c .before .before .before .before .before .args .n) (c .before .before .before .before .before .args .p) (omega (arith, c .before .before .before .before .if1 .left))
 
 pub ticks-from-spec : {M : Type 1} → statement M
-ticks-from-spec = tie.close (tie.spec returns (λ c κs. search needs) (λ c κs. search needs) returns-2)
+ticks-from-spec = tie.close (tie.spec returns (λ c κs. search needs) (λ c κs. search needs) returns-2 (λ c κs. search needs) (λ c κs. search needs) returns-3)
