@@ -40,8 +40,8 @@ use Rattle.board_rules.proofs.Board.Laws as B′
 use Rattle.board.specs.declared.Plan.{Plan}
 use Rattle.board.proofs.Plan as P
 use Rattle.board.proofs.Plan.Laws as P′
+use Rattle.lending.proofs.Early.{early}
 use Rattle.host.proofs.Calls.{Bytes, bytes, numbers, copies}
-use Rattle.host.proofs.Early.{early}
 use Rattle.host.proofs.Bytes.{At, Fit, values, denots, spelled, numbers-are, spelled-are, own-bytes, Locals, AllStand, further, all-stand, behind, stands, cells, Stands, alloc-bytes, pass-bytes, free-bytes, carried, read-bytes}
 use Rattle.board.proofs.Calls.{board-vals, board-val, plan-val, board-ref, room-ref, Parts, parts, Plans, planning, PlanClauses, Planning, plan-of, decided, at, function}
 use Rattle.board.proofs.Entry.{Loan, lent-board, lent-room, lent}

@@ -33,8 +33,8 @@ use denote.Triple.Clauses.{Ended, Clauses, ensured, closing, lasts}
 use Rattle.ins2651_rules.specs.declared.Device.{Device}
 use Rattle.ins2651_rules.proofs.Device as D
 use Rattle.board_rules.specs.declared.Board.{Board}
+use Rattle.lending.proofs.Early.{holds}
 use Rattle.host.proofs.Calls.{Bytes}
-use Rattle.host.proofs.Early.{holds}
 use Rattle.host.proofs.Bytes.{Fit}
 use Rattle.board.proofs.Calls.{Parts, Plans, Planning, Promise, Says, at}
 use Rattle.board.proofs.Entry.{Loan, lent}

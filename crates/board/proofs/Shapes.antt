@@ -29,9 +29,9 @@ use Rattle.ins2651_rules.proofs.Device as D
 use Rattle.board_rules.specs.declared.Board.{Board}
 use Rattle.board_rules.specs.Runs.{deviceAt}
 use Rattle.board.specs.declared.Plan.{Plan}
+use Rattle.lending.proofs.Early.{early, holds, fails}
 use Rattle.host.proofs.Calls.{Bytes, past, copies}
 use Rattle.host.proofs.Calls as host
-use Rattle.host.proofs.Early.{early, holds, fails}
 use Rattle.host.proofs.Bytes.{Fit}
 use Rattle.host.proofs.Again.{reborrow, Lending}
 use Rattle.board.proofs.Calls.{size, Parts, Plans, Planning, Summaries, Summing, on-board, Promise, Says, OnBoard, at, function}

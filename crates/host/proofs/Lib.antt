@@ -2,8 +2,6 @@ pub mod Calls
 pub mod Bytes
 pub mod Lent
 pub mod Again
-pub mod Moves
-pub mod Early
 pub mod InTurn
 pub mod Either
 pub mod Spares

@@ -4,3 +4,7 @@ pub mod Calls
 pub mod Entry
 pub mod Lends
 pub mod Lent
+pub mod Early
+pub mod Moves
+pub mod Again
+pub mod Spares
