@@ -13,7 +13,7 @@ ghost use Rattle.ins2651_rules.specs.Conditions;
 ghost use Rattle.ins2651_rules.specs.Conditions.{dataSetReady, clearToSend, modeSet, mayWrite};
 ghost use Rattle.ins2651_rules.specs.Status;
 ghost use Rattle.ins2651_rules.specs.Status.{modemBits, errorBits, readyBits, statusByte, outputsOf};
-ghost use Rattle.ins2651_rules.specs.Ranges.{mode1InRange, commandInRange, registersInRange, pinsInRange, flagsInRange, inRange, settled};
+ghost use Rattle.ins2651_rules.specs.Ranges.{mode1InRange, commandInRange, registersInRange, pinsInRange, flagsInRange, inRange, restsInRange, settled};
 ghost use Rattle.ins2651_rules.specs.Refusals.{readRefusal, mode1Refusal, modeRefusal, commandRefusal, writeRefusal, pinsRefusal, levelRefusal};
 ghost use Rattle.ins2651_rules.specs.RegisterReads;
 ghost use Rattle.ins2651_rules.specs.RegisterReads.{readHolding, readStatus, readMode, readCommand, readRegister};
@@ -297,6 +297,17 @@ pub fn in_range(d: Device) -> bool
         & pins_in_range(d.pins)
         & link::sender_in_range(d.sender)
         & link::receiver_in_range(d.receiver)
+        & flags_in_range(d.flags)
+}
+
+// The same of a device with no frame and no character under way, where that is known.
+pub fn rests_in_range(d: Device) -> bool
+    ensures { λ b. ⌜ b ≡ restsInRange d ⌝ }
+{
+    registers_in_range(d.registers)
+        & pins_in_range(d.pins)
+        & link::sender_rests_in_range(d.sender)
+        & link::receiver_rests_in_range(d.receiver)
         & flags_in_range(d.flags)
 }
 

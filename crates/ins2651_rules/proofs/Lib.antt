@@ -1,4 +1,5 @@
 pub mod Settled
+pub mod RestsInRange
 pub mod Done
 pub mod Commands
 pub mod Formats

@@ -4,7 +4,7 @@ use Prim.Native.Nat.{ℕ}
 use mathlib.Core.Bool.{Bool, cond, not, _&&_}
 use lib.Dec.{leb, eqb}
 use Rattle.line_rules.specs.Sending.{on}
-use Rattle.link_rules.specs.Within.{senderInRange, receiverInRange}
+use Rattle.link_rules.specs.Within.{senderInRange, receiverInRange, senderRestsInRange, receiverRestsInRange}
 use Rattle.ins2651_rules.specs.declared.Registers.{Registers}
 use Rattle.ins2651_rules.specs.declared.Pins.{Pins}
 use Rattle.ins2651_rules.specs.declared.Flags.{Flags}
@@ -36,6 +36,15 @@ inRange d =
     && pinsInRange (d .pins)
     && senderInRange (d .sender)
     && receiverInRange (d .receiver)
+    && flagsInRange (d .flags)
+
+-- the same of a device with no frame and no character under way, where that is known (proofs/RestsInRange.antt)
+unfoldable pub restsInRange : Device → Bool
+restsInRange d =
+    registersInRange (d .registers)
+    && pinsInRange (d .pins)
+    && senderRestsInRange (d .sender)
+    && receiverRestsInRange (d .receiver)
     && flagsInRange (d .flags)
 
 -- the device itself, or the one just reset where it is out of range

@@ -152,7 +152,7 @@ pub fn stands(p: Pair) -> bool
 {
     let ways = way_stands(p.a, p.b) & way_stands(p.b, p.a);
     if ways {
-        return sound(p);
+        return ins2651::rests_in_range(p.a) & ins2651::rests_in_range(p.b);
     }
     false
 }

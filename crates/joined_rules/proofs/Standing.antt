@@ -2,12 +2,21 @@
 -- Assumes nothing.
 use Prim.Native.Nat.{ℕ}
 use mathlib.Core.Path.{_≡_, ap, ap₂, sym, _∙_}
-use mathlib.Core.Bool.{Bool, true, false, _&&_}
+use mathlib.Core.Bool.{Bool, true, false, not, _&&_}
+use lib.Dec.{ltb}
+use borrow.Author.Tests.{eqb-true, le-ltb}
+use Rattle.line_rules.specs.Sending.{bit, on}
+use Rattle.line_rules.proofs.Bits.{at-most-one}
+use Rattle.line_rules.proofs.Choice.{not-so}
 use Rattle.line_rules.proofs.Table.{both}
+use Rattle.link_rules.specs.Hearing.{underWay}
+use Rattle.link_rules.specs.Within.{clear}
+use Rattle.way_rules.specs.declared.Ends.{Ends}
 use Rattle.way_rules.specs.declared.Way.{Way}
-use Rattle.way_rules.specs.Calm.{wayStands}
+use Rattle.way_rules.specs.Calm.{breaks, senderStands, wayStands}
 use Rattle.way_rules.proofs.Standing.{way-stands}
-use Rattle.ins2651_rules.specs.Ranges.{inRange}
+use Rattle.ins2651_rules.specs.Ranges.{inRange, restsInRange}
+use Rattle.ins2651_rules.proofs.RestsInRange.{rests-in-range}
 use Rattle.joined_rules.specs.declared.Pair.{Pair}
 use Rattle.joined_rules.specs.Joining.{ticks}
 use Rattle.joined_rules.specs.TwoWays.{endsOf, wayOf, withWays, alongBoth, stands}
@@ -26,14 +35,30 @@ stands-stays p n h =
     ∙ two-ways n p
     ∙ ap₂ (withWays p) (way-stands (endsOf (p .a) (p .b)) n (wayOf (p .a) (p .b)) (s .0)) (way-stands (endsOf (p .b) (p .a)) n (wayOf (p .b) (p .a)) (s .1))
 
+-- a way that stands has nothing under way at either end
+under-way-none : (e : Ends) (w : Way) → wayStands e w ≡ true → (on (w .sender .frame .place) ≡ false) × (underWay (w .receiver .state) ≡ false)
+unfolding wayStands
+under-way-none e w h =
+    let t = both (senderStands (w .sender) (e .ready) (e .broken) (e .send .factor)) _ h in
+    let s = both (not (on (w .sender .frame .place))) _ (t .0) in
+    let r = both (clear (w .receiver)) _ (t .1) in
+    let level : Bool = e .live && not (breaks e) in
+    (not-so _ (s .0), ap (ltb 1) (eqb-true (w .receiver .state .phase) (bit level) (r .1)) ∙ le-ltb 1 (bit level) (at-most-one level))
+
 -- as the code puts it together: the ways, and where both stand the ranges
 module _ (p : Pair) (x y : Bool) (there : x ≡ wayStands (endsOf (p .a) (p .b)) (wayOf (p .a) (p .b))) (back : y ≡ wayStands (endsOf (p .b) (p .a)) (wayOf (p .b) (p .a))) where
   all-of : (x && y && inRange (p .a) && inRange (p .b)) ≡ stands p
   unfolding stands
   all-of = ap₂ (λ (s r : Bool). s && r && inRange (p .a) && inRange (p .b)) there back
 
-  pub stands-in : (x && y) ≡ true → (inRange (p .a) && inRange (p .b)) ≡ stands p
-  stands-in w = ap (λ (s : Bool). s && inRange (p .a) && inRange (p .b)) (sym w) ∙ all-of
+  pub stands-in : (x && y) ≡ true → (restsInRange (p .a) && restsInRange (p .b)) ≡ stands p
+  stands-in w =
+      let t = both x y w in
+      let s = under-way-none (endsOf (p .a) (p .b)) (wayOf (p .a) (p .b)) (sym there ∙ t .0) in
+      let r = under-way-none (endsOf (p .b) (p .a)) (wayOf (p .b) (p .a)) (sym back ∙ t .1) in
+      ap₂ (λ (u v : Bool). u && v) (rests-in-range (p .a) (s .0) (r .1)) (rests-in-range (p .b) (r .0) (s .1))
+      ∙ ap (λ (u : Bool). u && inRange (p .a) && inRange (p .b)) (sym w)
+      ∙ all-of
 
   pub stands-not : (x && y) ≡ false → false ≡ stands p
   stands-not w = ap (λ (s : Bool). s && inRange (p .a) && inRange (p .b)) (sym w) ∙ all-of

@@ -10,7 +10,8 @@ ghost use Rattle.link_rules.specs.Transmitting;
 ghost use Rattle.link_rules.specs.Transmitting.{nextPlace, frameNext, frameTick, beginTick, idleTick, breakTick, markTick};
 ghost use Rattle.link_rules.specs.Hearing;
 ghost use Rattle.link_rules.specs.Hearing.{underWay, characterFormat, keptFormat, stepped, holds};
-ghost use Rattle.link_rules.specs.Within.{isNoFormat, holdingInRange, busyInRange, freeInRange, frameInRange, senderInRange, countdownInRange, valueInRange, wrongInRange, assemblyInRange, restInRange, stateInRange, receiverInRange};
+ghost use Rattle.link_rules.specs.Within.{isNoFormat, holdingInRange, busyInRange, freeInRange, frameInRange, senderInRange, countdownInRange, valueInRange, wrongInRange, assemblyInRange, restInRange, stateInRange, receiverInRange, senderRestsInRange, receiverRestsInRange};
+ghost use Rattle.link_rules.specs.Within;
 use line_rules::Format;
 use line_rules::Heard;
 use line_rules::Receiver;
@@ -314,7 +315,7 @@ pub fn receive(r: ReceiverHalf, live: bool, f: Format, x: bool) -> Received
 // == the ranges ==
 
 // The format of nothing: all 0.
-pub fn is_no_format(f: Format) -> bool
+fn is_no_format(f: Format) -> bool
     ensures { λ r. ⌜ r ≡ isNoFormat f ⌝ }
 {
     (f.factor == 0) & (f.length == 0) & (f.parity == 0) & (f.even == 0) & (f.stop == 0)
@@ -424,7 +425,7 @@ fn assembly_in_range(f: Format, s: Receiver) -> bool
 }
 
 // Nothing of a character stands in the receiver.
-pub fn rest_in_range(s: Receiver) -> bool
+fn rest_in_range(s: Receiver) -> bool
     ensures { λ r. ⌜ r ≡ restInRange s ⌝ }
 {
     (s.countdown == 0) & (s.value == 0) & (s.wrong == 0) & (s.look == 0)
@@ -437,6 +438,27 @@ fn state_in_range(f: Format, s: Receiver) -> bool
         return line::in_range(f) & assembly_in_range(f, s);
     }
     is_no_format(f) & rest_in_range(s)
+}
+
+// No character is under way.
+pub fn clear(r: ReceiverHalf) -> bool
+    ensures { λ b. ⌜ b ≡ Within.clear r ⌝ }
+{
+    is_no_format(r.format) & rest_in_range(r.state)
+}
+
+// Whether a sending half with no frame under way is one of document 01.
+pub fn sender_rests_in_range(s: SenderHalf) -> bool
+    ensures { λ r. ⌜ r ≡ senderRestsInRange s ⌝ }
+{
+    holding_in_range(s.full, s.holding) & free_in_range(s.frame, s.guard)
+}
+
+// Whether a receiving half with no character under way is.
+pub fn receiver_rests_in_range(r: ReceiverHalf) -> bool
+    ensures { λ b. ⌜ b ≡ receiverRestsInRange r ⌝ }
+{
+    (r.unread <= 1) & clear(r)
 }
 
 // Whether a receiving half is one of document 01.

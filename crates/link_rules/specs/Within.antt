@@ -70,3 +70,11 @@ stateInRange f s = cond (underWay s) (inRange f && assemblyInRange f s) (isNoFor
 
 unfoldable pub receiverInRange : ReceiverHalf → Bool
 receiverInRange r = leb (r .unread) 1 && stateInRange (r .format) (r .state)
+
+-- == halves with nothing under way, where that is known ==
+
+abbrev pub senderRestsInRange : SenderHalf → Bool
+senderRestsInRange s = holdingInRange (s .full) (s .holding) && freeInRange (s .frame) (s .guard)
+
+abbrev pub receiverRestsInRange : ReceiverHalf → Bool
+receiverRestsInRange r = leb (r .unread) 1 && clear r

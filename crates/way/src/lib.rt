@@ -8,7 +8,6 @@ ghost use lib.Dec.{eqb};
 ghost use Rattle.line_rules.specs.Sending.{bit, half, level, orSet};
 ghost use Rattle.line_rules.specs.Receiving.{under, stopLook, lookAt};
 ghost use Rattle.link_rules.specs.Transmitting.{transmit, frameTick, beginTick};
-ghost use Rattle.link_rules.specs.Within;
 ghost use Rattle.way_rules.specs.Parts.{withoutFrame, withMark, resting, assembled, tuned};
 ghost use Rattle.way_rules.specs.Along.{sent, received, sentBy, heardBy, heardAs, wayTick, wayTicks};
 ghost use Rattle.way_rules.specs.Calm;
@@ -413,13 +412,6 @@ fn sender_skipped(e: Ends, k: u16, mut s: SenderHalf) -> SenderHalf
     s
 }
 
-// No character is under way.
-fn clear(r: ReceiverHalf) -> bool
-    ensures { λ b. ⌜ b ≡ Within.clear r ⌝ }
-{
-    link::is_no_format(r.format) & link::rest_in_range(r.state)
-}
-
 // How many ticks of the receiver only count, by the line that it hears.
 fn heard_calm(e: Ends, w: Way) -> u16
     ensures { λ n. ⌜ n ≡ heardCalm e w ⌝ }
@@ -430,13 +422,13 @@ fn heard_calm(e: Ends, w: Way) -> u16
         if phase == 2 {
             return w.receiver.state.countdown as u16;
         }
-        let rests = clear(w.receiver);
+        let rests = link::clear(w.receiver);
         if rests {
             return sender_keeps(e, w.sender, phase);
         }
         return 0;
     }
-    endless((phase == 0) & clear(w.receiver))
+    endless((phase == 0) & link::clear(w.receiver))
 }
 
 // Whether the receiver looks at the next tick: the quickest sign that this is not calm.
@@ -498,7 +490,7 @@ pub fn sender_stands(s: SenderHalf, ready: bool, broken: bool, factor: u8) -> bo
 pub fn receiver_stands(r: ReceiverHalf, live: bool, level: bool) -> bool
     ensures { λ b. ⌜ b ≡ receiverStands r live level ⌝ }
 {
-    clear(r) & (r.state.phase == line::number(live & level))
+    link::clear(r) & (r.state.phase == line::number(live & level))
 }
 
 // == a frame that is followed ==

@@ -1,8 +1,8 @@
--- `way::clear` meets its contract. The calls' results put together.
+-- `link::clear` meets its contract. The calls' results put together.
 -- Assumes nothing.
 use borrow.Author.Needs.{needs}
-use Rattle.way.proofs.clear.Statement.{statement}
-use Rattle.way.proofs.clear.Tie as tie
+use Rattle.link.proofs.clear.Statement.{statement}
+use Rattle.link.proofs.clear.Tie as tie
 
 returns : tie.Need-returns
 returns c = rw (c .rest-in-range .ensures, c .before .is-no-format .ensures)
