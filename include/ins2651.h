@@ -191,7 +191,7 @@ typedef struct ins2651 {
       {0, 0, 0, 0, 0} }                         /* flags */
 
 /* The layout is the archive's. Bytes 23, 37 and 43 are padding: no call reads it and none keeps it, so compare devices
- * field by field and not by their bytes. */
+ * field by field and not by their bytes. INS2651_HOLDS is for the headers that rest on this one too. */
 #ifdef __cplusplus
 #define INS2651_HOLDS(fact) static_assert(fact, #fact)
 #else
@@ -240,7 +240,6 @@ INS2651_AT(flags.parity, 40, 1);
 INS2651_AT(flags.empty, 41, 1);
 INS2651_AT(flags.change, 42, 1);
 #undef INS2651_AT
-#undef INS2651_HOLDS
 
 /* Resets the device, all three inputs high; answers 0. */
 uint16_t ins2651_reset(ins2651 *device);

@@ -78,21 +78,15 @@ typedef struct interfacer3 {
       {INS2651_RESET, INS2651_RESET, INS2651_RESET, INS2651_RESET, INS2651_RESET, INS2651_RESET, INS2651_RESET, INS2651_RESET} }
 
 /* The layout is the archive's. */
-#ifdef __cplusplus
-#define INTERFACER3_HOLDS(fact) static_assert(fact, #fact)
-#else
-#define INTERFACER3_HOLDS(fact) _Static_assert(fact, #fact)
-#endif
 #define INTERFACER3_AT(type, field, offset, size) \
-    INTERFACER3_HOLDS(offsetof(type, field) == (offset) && sizeof(((type *)0)->field) == (size))
-INTERFACER3_HOLDS(sizeof(interfacer3_board) == 4);
+    INS2651_HOLDS(offsetof(type, field) == (offset) && sizeof(((type *)0)->field) == (size))
+INS2651_HOLDS(sizeof(interfacer3_board) == 4);
 INTERFACER3_AT(interfacer3_board, number, 0, 1);
 INTERFACER3_AT(interfacer3_board, select, 1, 1);
 INTERFACER3_AT(interfacer3_board, transmit_mask, 2, 1);
 INTERFACER3_AT(interfacer3_board, receive_mask, 3, 1);
 INTERFACER3_AT(interfacer3, channel, sizeof(interfacer3_board), INTERFACER3_CHANNELS * sizeof(ins2651));
 #undef INTERFACER3_AT
-#undef INTERFACER3_HOLDS
 
 /* The calls. `room` points to the channels, and `channels` is their count; the board must not lie among them. Any count but eight is refused
  * with 10, and nothing is looked at. */

@@ -1,4 +1,4 @@
-/* What the two drivers share: a call on each line of standard input, its answer on a line of standard output. */
+/* What the drivers share: a call on each line of standard input, its answer on a line of standard output. */
 #ifndef LINES_H
 #define LINES_H
 
@@ -8,18 +8,23 @@
 
 #include "ins2651.h"
 
+/* What stands behind a blank and a number of at most `most`; NULL where there is none, or no text. */
+static const char *behind_number(const char *rest, unsigned long long most, unsigned long long *number) {
+    if (!rest || *rest != ' ' || rest[1] < '0' || rest[1] > '9') return NULL;
+    char *end;
+    *number = strtoull(rest + 1, &end, 10);
+    return *number <= most ? end : NULL;
+}
+
 /* What stands behind a call's name and its numbers; NULL where it is none of that name. */
 static const char *behind(const char *line, const char *name, unsigned count, uint8_t *numbers) {
     size_t length = strlen(name);
     if (strncmp(line, name, length) != 0) return NULL;
     const char *rest = line + length;
-    for (unsigned i = 0; i < count; i++) {
-        if (*rest != ' ' || rest[1] < '0' || rest[1] > '9') return NULL;
-        char *end;
-        unsigned long number = strtoul(rest + 1, &end, 10);
-        if (number > 255) return NULL;
-        numbers[i] = (uint8_t)number;
-        rest = end;
+    for (unsigned i = 0; i < count && rest; i++) {
+        unsigned long long number;
+        rest = behind_number(rest, 255, &number);
+        if (rest) numbers[i] = (uint8_t)number;
     }
     return rest;
 }
@@ -51,11 +56,15 @@ static int set_bytes(const char *rest, ins2651 *device) {
     return 1;
 }
 
-static void print_bytes(const ins2651 *device) {
+static void print_digits(const ins2651 *device) {
     unsigned char bytes[sizeof *device];
     memcpy(bytes, device, sizeof *device);
     bytes[23] = bytes[37] = bytes[43] = 0; /* padding: no call reads it, none keeps it */
     for (size_t i = 0; i < sizeof bytes; i++) printf("%02x", bytes[i]);
+}
+
+static void print_bytes(const ins2651 *device) {
+    print_digits(device);
     printf("\n");
 }
 

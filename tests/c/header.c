@@ -265,12 +265,6 @@ static void refused_ticks(void) {
     holds(same(&chip, &before) && same(&wrong, &given), "a refused ins2651_tick does neither tick");
 }
 
-static void joined_tick(ins2651 *a, ins2651 *b) {
-    uint16_t from_a = ins2651_transmit(a), from_b = ins2651_transmit(b);
-    ins2651_receive(a, (uint8_t)from_b);
-    ins2651_receive(b, (uint8_t)from_a);
-}
-
 /* After one transmit tick of each, n rounds with each other's levels are n joined ticks and one more transmit tick of each. */
 static void rounds_are_joined_ticks(void) {
     ins2651 a = about_to_send(21), b = about_to_send(10), c = a, d = b;

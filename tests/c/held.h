@@ -24,4 +24,12 @@ static int same(const ins2651 *a, const ins2651 *b) {
     return 1;
 }
 
+/* A joined tick by the chip's own calls, and the levels sent: 2 times b's plus a's. Not every test has two chips: it is inline. */
+static inline int joined_tick(ins2651 *a, ins2651 *b) {
+    int from_a = ins2651_transmit(a), from_b = ins2651_transmit(b);
+    ins2651_receive(a, (uint8_t)from_b);
+    ins2651_receive(b, (uint8_t)from_a);
+    return 2 * from_b + from_a;
+}
+
 #endif

@@ -1,0 +1,194 @@
+/* What include/ins2651_pair.h says, held to what its calls do. Each failure is printed and makes the status 1. It is C11 and C++17. */
+#include <stdio.h>
+#include <string.h>
+
+#include "ins2651_pair.h"
+#include "ins2651_pair.h" /* it may be included twice */
+
+#include "held.h"
+
+static int same_pairs(const ins2651_pair *x, const ins2651_pair *y) { return same(&x->a, &y->a) && same(&x->b, &y->b); }
+
+/* Transmit and receive on, pins low, a character under way to the other end and one waiting. */
+static void begins_to_send(ins2651 *chip, uint8_t mode1, uint8_t first, uint8_t second) {
+    ins2651_reset(chip);
+    ins2651_write(chip, INS2651_MODE, mode1);
+    ins2651_write(chip, INS2651_COMMAND, INS2651_COMMAND_TRANSMIT | INS2651_COMMAND_RECEIVE);
+    ins2651_pins(chip, 0, 0, 0);
+    ins2651_receive(chip, 1);
+    ins2651_write(chip, INS2651_DATA, first);
+    ins2651_transmit(chip);
+    ins2651_receive(chip, 0); /* the other's start */
+    ins2651_write(chip, INS2651_DATA, second);
+}
+
+/* Both ends send and hear, in the two formats. */
+static ins2651_pair talking(uint8_t mode1_of_a, uint8_t mode1_of_b) {
+    ins2651_pair pair;
+    memset(&pair, 0, sizeof pair);
+    begins_to_send(&pair.a, mode1_of_a, 21, 200);
+    begins_to_send(&pair.b, mode1_of_b, 10, 97);
+    return pair;
+}
+
+enum {
+    A_TICK_A_BIT = INS2651_MODE1(8, INS2651_PARITY_ODD, INS2651_STOP_1, 1),
+    SIXTEEN = INS2651_MODE1(7, INS2651_PARITY_EVEN, INS2651_STOP_1_HALF, 16),
+    SIXTY_FOUR = INS2651_MODE1(5, INS2651_PARITY_NONE, INS2651_STOP_2, 64)
+};
+static const uint8_t modes[] = {A_TICK_A_BIT, SIXTEEN, SIXTY_FOUR};
+
+/* == the beginnings == */
+
+static void beginnings(void) {
+    struct ins2651_pair begun = INS2651_PAIR_RESET;
+    ins2651_pair pair = talking(A_TICK_A_BIT, SIXTEEN);
+    holds(!same_pairs(&pair, &begun), "pairs that are not alike");
+    ins2651_reset(&pair.a);
+    holds(same(&pair.a, &begun.a) && !same(&pair.b, &begun.b), "a call on pair.a is one on that device alone");
+    ins2651_reset(&pair.b);
+    holds(same_pairs(&pair, &begun), "INS2651_PAIR_RESET is two devices just reset");
+}
+
+/* == the joined tick == */
+
+static void ticks_are_the_chips_own(void) {
+    int seen = 0;
+    for (int m = 0; m < 9; m++) {
+        ins2651_pair pair = talking(modes[m / 3], modes[m % 3]), other = pair;
+        for (int tick = 0; tick < 400; tick++) {
+            int levels = joined_tick(&other.a, &other.b);
+            holds(ins2651_joined_tick(&pair) == levels, "ins2651_joined_tick answers 2 times b's level plus a's");
+            holds(same_pairs(&pair, &other), "ins2651_joined_tick is both transmit ticks, then both receive ticks");
+            seen |= 1 << levels;
+        }
+    }
+    holds(seen == 15, "all four answers of ins2651_joined_tick were seen");
+}
+
+/* A break at one end alone. */
+static void names_of_the_levels(void) {
+    ins2651_pair pair = talking(A_TICK_A_BIT, A_TICK_A_BIT);
+    ins2651_joined_run(&pair, 100); /* both are done with their characters */
+    holds(ins2651_joined_tick(&pair) == (INS2651_LEVEL_A | INS2651_LEVEL_B), "both at mark");
+    ins2651_write(&pair.a, INS2651_COMMAND, INS2651_COMMAND_TRANSMIT | INS2651_COMMAND_BREAK);
+    holds(ins2651_joined_tick(&pair) == INS2651_LEVEL_B, "INS2651_LEVEL_B alone, with a break from a");
+    ins2651_reset(&pair.a);
+    ins2651_write(&pair.b, INS2651_COMMAND, INS2651_COMMAND_TRANSMIT | INS2651_COMMAND_BREAK);
+    holds(ins2651_joined_tick(&pair) == INS2651_LEVEL_A, "INS2651_LEVEL_A alone, with a break from b");
+}
+
+/* == runs == */
+
+/* Runs of each length up to a little more than both frames of the slower end, from one beginning, which is ticked beside them. */
+static void runs_are_joined_ticks(void) {
+    for (int m = 0; m < 9; m++) {
+        const ins2651_pair begun = talking(modes[m / 3], modes[m % 3]);
+        ins2651_pair ticked = begun;
+        for (uint32_t n = 0; n < 1100; n++) {
+            ins2651_pair pair = begun;
+            holds(ins2651_joined_run(&pair, n) == INS2651_DONE, "a run that is done");
+            holds(same_pairs(&pair, &ticked), "a run of n is n joined ticks");
+            ins2651_joined_tick(&ticked);
+        }
+    }
+}
+
+static void characters_come_in_a_run(void) {
+    ins2651_pair pair = talking(SIXTEEN, SIXTEEN);
+    ins2651_joined_run(&pair, INS2651_RUN_LIMIT);
+    holds(INS2651_VALUE(ins2651_read(&pair.a, INS2651_DATA)) == 97, "the second character comes from b");
+    holds(INS2651_VALUE(ins2651_read(&pair.b, INS2651_DATA)) == 200 % 128, "the second character comes from a");
+    int flags = ins2651_peek(&pair.b) & (INS2651_STATUS_PARITY | INS2651_STATUS_OVERRUN | INS2651_STATUS_FRAMING);
+    holds(flags == INS2651_STATUS_OVERRUN, "the first of two characters in a run is overrun");
+}
+
+/* == the limit == */
+
+static void the_limit(void) {
+    ins2651_pair pair = talking(SIXTY_FOUR, A_TICK_A_BIT), ticked = pair;
+    holds(INS2651_RUN_LIMIT == 65535, "INS2651_RUN_LIMIT is that of request P9");
+    holds(ins2651_joined_run(&pair, INS2651_RUN_LIMIT) == INS2651_DONE, "a run of INS2651_RUN_LIMIT is done");
+    for (int tick = 0; tick < INS2651_RUN_LIMIT; tick++) ins2651_joined_tick(&ticked);
+    holds(same_pairs(&pair, &ticked), "a run of INS2651_RUN_LIMIT is as many joined ticks");
+}
+
+/* Just above the limit, numbers whose low 16 or 31 bits would be a run, and the largest. */
+static const uint32_t too_many[] = {INS2651_RUN_LIMIT + 1, 65537,      65599,      131071,     131072,    0x10FFFF,
+                                    0x1000001,             0x7FFFFFFF, 0x80000000, 0x80000001, 0xFFFF0000, UINT32_MAX};
+
+static void refuses_too_many(const ins2651_pair *given) {
+    for (size_t i = 0; i < sizeof too_many / sizeof *too_many; i++) {
+        ins2651_pair pair = *given;
+        holds(ins2651_joined_run(&pair, too_many[i]) == INS2651_RUN_TOO_LONG, "INS2651_RUN_TOO_LONG");
+        holds(same_pairs(&pair, given), "a refused run leaves the pair");
+    }
+}
+
+/* == devices out of range == */
+
+/* The pair with one byte of a device, or of both, out of range: the mode pointer. */
+static ins2651_pair spoilt(int a, int b) {
+    ins2651_pair pair = talking(SIXTEEN, A_TICK_A_BIT);
+    if (a) pair.a.registers.modes = 2;
+    if (b) pair.b.registers.modes = 2;
+    return pair;
+}
+
+/* What is out of range counts as just reset, and only that. */
+static ins2651_pair settled(int a, int b) {
+    ins2651_pair pair = spoilt(0, 0);
+    if (a) ins2651_reset(&pair.a);
+    if (b) ins2651_reset(&pair.b);
+    return pair;
+}
+
+static void out_of_range(void) {
+    for (int which = 0; which < 4; which++) {
+        int a = which & 1, b = which >> 1;
+        ins2651_pair given = spoilt(a, b), pair = given, whole = settled(a, b);
+        holds(ins2651_in_range(&pair.a) == !a && ins2651_in_range(&pair.b) == !b, "the devices that are out of range");
+        holds(ins2651_joined_run(&pair, 0) == INS2651_DONE && same_pairs(&pair, &given), "a run of 0 leaves the pair, out of range too");
+        refuses_too_many(&given);
+        holds(ins2651_joined_tick(&pair) == joined_tick(&whole.a, &whole.b), "the levels of a tick: out of range counts as just reset");
+        holds(same_pairs(&pair, &whole), "a tick: each device out of range is taken as just reset, and no other");
+        for (uint32_t n = 1; n < 300; n++) {
+            pair = given;
+            holds(ins2651_joined_run(&pair, n) == INS2651_DONE, "a run that is done, out of range");
+            holds(same_pairs(&pair, &whole), "a run: each device out of range is taken as just reset, and no other");
+            joined_tick(&whole.a, &whole.b);
+        }
+    }
+    ins2651_pair pair, begun = INS2651_PAIR_RESET;
+    memset(&pair, 0xAA, sizeof pair);
+    refuses_too_many(&pair);
+    holds(ins2651_joined_run(&pair, 1) == INS2651_DONE && same_pairs(&pair, &begun), "a run of 1 on any bytes");
+}
+
+/* == what is not lent == */
+
+/* The calls leave what lies before and behind the pair. */
+static void neighbours(void) {
+    ins2651_pair row[3];
+    for (int k = 0; k < 3; k++) row[k] = talking(modes[k], modes[2 - k]);
+    unsigned char before[sizeof row];
+    memcpy(before, row, sizeof row);
+    ins2651_joined_run(&row[1], 700);
+    ins2651_joined_tick(&row[1]);
+    ins2651_joined_run(&row[1], INS2651_RUN_LIMIT + 1);
+    const unsigned char *after = (const unsigned char *)row;
+    holds(memcmp(after, before, sizeof row[0]) == 0, "what lies before the pair stays");
+    holds(memcmp(after + 2 * sizeof row[0], before + 2 * sizeof row[0], sizeof row[0]) == 0, "what lies behind the pair stays");
+}
+
+int main(void) {
+    beginnings();
+    ticks_are_the_chips_own();
+    names_of_the_levels();
+    runs_are_joined_ticks();
+    characters_come_in_a_run();
+    the_limit();
+    out_of_range();
+    neighbours();
+    return failures != 0;
+}
