@@ -79,6 +79,37 @@ impl Call {
         };
         (refusal, vec![refusal])
     }
+
+    /// The call with one number smaller.
+    pub fn simpler(self) -> Vec<Call> {
+        match self {
+            Call::Read(address) => smaller_bytes(address).map(Call::Read).collect(),
+            Call::Receive(level) => smaller_bytes(level).map(Call::Receive).collect(),
+            Call::Tick(level) => smaller_bytes(level).map(Call::Tick).collect(),
+            Call::Write(address, value) => smaller_bytes(value)
+                .map(|value| Call::Write(address, value))
+                .collect(),
+            Call::Pins(levels) => smaller_levels(levels).map(Call::Pins).collect(),
+            Call::Reset | Call::Transmit => Vec::new(),
+            Call::Outputs | Call::Peek | Call::InRange => Vec::new(),
+        }
+    }
+}
+
+/// The line of the call.
+impl fmt::Display for Call {
+    fn fmt(&self, f: &mut fmt::Formatter) -> fmt::Result {
+        write!(f, "{}", self.name())?;
+        match *self {
+            Call::Read(number) | Call::Receive(number) | Call::Tick(number) => {
+                write!(f, " {number}")
+            }
+            Call::Write(address, value) => write!(f, " {address} {value}"),
+            Call::Pins([dsr, dcd, cts]) => write!(f, " {dsr} {dcd} {cts}"),
+            Call::Reset | Call::Transmit => Ok(()),
+            Call::Outputs | Call::Peek | Call::InRange => Ok(()),
+        }
+    }
 }
 
 /// Bytes that are no device in range.
@@ -113,18 +144,7 @@ pub enum Line {
 impl fmt::Display for Line {
     fn fmt(&self, f: &mut fmt::Formatter) -> fmt::Result {
         match self {
-            Line::Call(call) => {
-                write!(f, "{}", call.name())?;
-                match *call {
-                    Call::Read(number) | Call::Receive(number) | Call::Tick(number) => {
-                        write!(f, " {number}")
-                    }
-                    Call::Write(address, value) => write!(f, " {address} {value}"),
-                    Call::Pins([dsr, dcd, cts]) => write!(f, " {dsr} {dcd} {cts}"),
-                    Call::Reset | Call::Transmit => Ok(()),
-                    Call::Outputs | Call::Peek | Call::InRange => Ok(()),
-                }
-            }
+            Line::Call(call) => write!(f, "{call}"),
             Line::Device(_, bytes) => write!(f, "device {}", hexadecimal(bytes)),
             Line::Bytes => write!(f, "bytes"),
         }
@@ -184,6 +204,18 @@ impl Lent {
         }
     }
 
+    /// The chip, which is from now on one just reset where the device is out of
+    /// range.
+    pub fn settled(&mut self) -> &mut Chip {
+        if let Lent::OutOfRange(_) = self {
+            *self = Lent::InRange(Chip::just_reset());
+        }
+        match self {
+            Lent::InRange(chip) => chip,
+            Lent::OutOfRange(_) => unreachable!("it is settled"),
+        }
+    }
+
     /// The refusal, and the numbers answered. A refused call hands bytes out of
     /// range back as given, and so does one that only looks.
     pub fn call(&mut self, call: &Call) -> (u8, Vec<u8>) {
@@ -232,17 +264,6 @@ impl Entry for Line {
         let Line::Call(call) = *self else {
             return Vec::new();
         };
-        let calls: Vec<Call> = match call {
-            Call::Read(address) => smaller_bytes(address).map(Call::Read).collect(),
-            Call::Receive(level) => smaller_bytes(level).map(Call::Receive).collect(),
-            Call::Tick(level) => smaller_bytes(level).map(Call::Tick).collect(),
-            Call::Write(address, value) => smaller_bytes(value)
-                .map(|value| Call::Write(address, value))
-                .collect(),
-            Call::Pins(levels) => smaller_levels(levels).map(Call::Pins).collect(),
-            Call::Reset | Call::Transmit => Vec::new(),
-            Call::Outputs | Call::Peek | Call::InRange => Vec::new(),
-        };
-        calls.into_iter().map(Line::Call).collect()
+        call.simpler().into_iter().map(Line::Call).collect()
     }
 }

@@ -5,9 +5,13 @@
 //! receiver the samples of the character under way, so both lean on the frame
 //! and the reading of the crate's root. The sections named are those of
 //! document 01; P1 is that request of document 02, the change requests. `bytes`
-//! has the chip as the bytes that a host lends.
+//! has the chip as the bytes that a host lends, `view` what an onlooker sees of it.
 
 mod bytes;
+mod view;
+
+pub use bytes::format_bytes;
+pub use view::View;
 
 use crate::{character_at, frame, Character, Format};
 use std::collections::VecDeque;
@@ -81,26 +85,6 @@ pub struct Chip {
     dsr: u8,
     dcd: u8,
     cts: u8,
-}
-
-/// What an onlooker sees of a chip between two calls; no rule rests on it.
-#[derive(Clone, Copy, Debug)]
-pub struct View {
-    pub mode1: Option<u8>,
-    pub mode2: u8,
-    pub command: u8,
-    pub pins: [u8; 3],
-    pub status: u8,
-    pub empty_mark: bool,
-    pub change_mark: bool,
-    /// Whether THR is full, whether a frame is under way, and the guard.
-    pub waiting: bool,
-    pub sending: bool,
-    pub guard: u32,
-    /// Receive on, DCD low and mode 1 accepted: a receive tick is heard.
-    pub listening: bool,
-    /// The character under way: its format, and its samples so far.
-    pub hearing: Option<(Format, usize)>,
 }
 
 /// The format that an accepted mode 1 stands for ("Registers"), in a direction
@@ -397,6 +381,11 @@ impl Chip {
             waiting: self.waiting.is_some(),
             sending: !self.sending.is_empty(),
             guard: self.guard,
+            frame: self.begun.map(|(format, _)| {
+                let length = format.frame_length() as usize;
+                (format, length - self.sending.len())
+            }),
+            waits: self.receiver == Receiver::Waiting,
             listening: self.heard_format().is_some(),
             hearing: match &self.receiver {
                 Receiver::Hearing { format, samples } => Some((*format, samples.len())),
@@ -437,12 +426,17 @@ pub fn set_up(mode1: u8, mode2: u8, command: u8) -> Chip {
     chip
 }
 
-/// Joined ticks of two chips: both transmit ticks, then each receiver takes the
-/// other's level ("Receiving").
+/// A joined tick of two chips: both transmit ticks, then each receiver takes the
+/// other's level ("Receiving"). The levels that they sent.
+pub fn joined_tick(a: &mut Chip, b: &mut Chip) -> [u8; 2] {
+    let (from_a, from_b) = (a.transmit(), b.transmit());
+    a.receive(from_b);
+    b.receive(from_a);
+    [from_a, from_b]
+}
+
 pub fn joined_ticks(a: &mut Chip, b: &mut Chip, count: u32) {
     for _ in 0..count {
-        let (from_a, from_b) = (a.transmit(), b.transmit());
-        a.receive(from_b);
-        b.receive(from_a);
+        joined_tick(a, b);
     }
 }

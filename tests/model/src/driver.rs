@@ -22,7 +22,9 @@ pub trait Entry: Clone + Display {
     fn answer(&self, model: &mut Self::Model) -> String;
 
     /// Whether a run may begin with it.
-    fn may_begin(&self) -> bool;
+    fn may_begin(&self) -> bool {
+        true
+    }
 
     /// Whether it is a call, and not one that sets or shows what calls are made on.
     fn is_call(&self) -> bool;
@@ -72,6 +74,26 @@ pub fn difference<E: Entry>(lines: &[E], output: &str) -> Option<Difference> {
 pub fn shortest<E: Entry>(lines: &[E], differs: impl Fn(&[E]) -> bool) -> Vec<E> {
     let differs = |lines: &[E]| lines.first().is_some_and(E::may_begin) && differs(lines);
     shorten(lines.to_vec(), E::simpler, differs)
+}
+
+/// What a driver answers to some lines, by what it keeps between them.
+pub fn output<E: Entry>(mut kept: E::Model, lines: &[E]) -> String {
+    lines
+        .iter()
+        .map(|line| line.answer(&mut kept) + "\n")
+        .collect()
+}
+
+/// The shortest run that shows a wrong driver, by how it starts, from the first of some
+/// runs that does; none where all are answered as by the model.
+pub fn found<E: Entry>(
+    mut runs: impl Iterator<Item = Vec<E>>,
+    start: impl Fn() -> E::Model,
+) -> Option<Vec<E>> {
+    let wrong = |lines: &[E]| difference(lines, &output(start(), lines));
+    let first = runs.find(|lines| wrong(lines).is_some())?;
+    let until = wrong(&first).map_or(0, |difference| difference.line);
+    Some(shortest(&first[..=until], |lines| wrong(lines).is_some()))
 }
 
 /// How a driver's answers to some lines differ from the model's, if they do.

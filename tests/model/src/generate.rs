@@ -1,5 +1,6 @@
 //! The random sessions, each with a fixed seed: its kind and its index. The runs
-//! of calls are in `calls`, the devices in `ranges`, the boards in `boards`.
+//! of calls are in `calls`, the devices in `ranges`, the boards in `boards`, the pairs
+//! in `pairs`.
 
 mod alike;
 pub mod boards;
@@ -7,6 +8,7 @@ pub mod calls;
 mod hostile;
 mod malformed;
 mod one_way;
+pub mod pairs;
 pub mod ranges;
 mod realistic;
 mod set_up;

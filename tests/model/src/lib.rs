@@ -6,19 +6,22 @@
 //! and keeps one mode. The module `chip` has the whole chip, `session` the
 //! session program, `calls` the text of the C driver and `ranges` the ranges of
 //! the device that it lends. The module `board` has eight chips on one board and the
-//! text of its driver. The other modules are the random tests from outside:
-//! `generate` draws sessions, runs of calls and devices, `program` runs the
-//! proved program, `driver` compares a C driver's answers with the model's,
-//! `delivery` holds an answer to demand 3 without the chip, `reach` counts what
-//! was reached and `shorten` cuts a difference down.
+//! text of its driver, `pair` two lent devices on a line and the text of theirs. The
+//! other modules are the random tests from outside: `generate` draws sessions, runs of
+//! calls and devices, `program` runs the proved program, `driver` compares a C
+//! driver's answers with the model's, `delivery` holds an answer to demand 3 without
+//! the chip, `reach` and `counts` count what was reached and `shorten` cuts a
+//! difference down.
 
 pub mod board;
 pub mod calls;
 pub mod chip;
+pub mod counts;
 pub mod delivery;
 pub mod draw;
 pub mod driver;
 pub mod generate;
+pub mod pair;
 pub mod program;
 pub mod ranges;
 pub mod reach;

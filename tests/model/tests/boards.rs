@@ -7,21 +7,17 @@ use model::board::lines::{Bench, Line, Make, Side};
 use model::board::reach::Reach;
 use model::board::{Board, Call};
 use model::chip::set_up;
-use model::driver::{difference, shortest, text};
+use model::driver::{self, difference, text};
 use model::generate::boards::{run, RUNS};
 
 fn output(make: Make, lines: &[Line]) -> String {
-    let mut bench = Bench::new(make);
-    lines.iter().map(|line| bench.answer(line) + "\n").collect()
+    driver::output(Bench::new(make), lines)
 }
 
 /// The shortest run that shows a wrong board, from the first run that does.
 fn found(name: &str, make: Make) -> Vec<Line> {
-    let differs = |lines: &[Line]| difference(lines, &output(make, lines)).is_some();
-    let first = (0..RUNS).map(run).find(|lines| differs(lines));
-    let first = first.unwrap_or_else(|| panic!("not found: {name}"));
-    let until = difference(&first, &output(make, &first)).map(|difference| difference.line);
-    shortest(&first[..=until.unwrap_or(0)], differs)
+    let found = driver::found((0..RUNS).map(run), || Bench::new(make));
+    found.unwrap_or_else(|| panic!("not found: {name}"))
 }
 
 #[test]

@@ -149,10 +149,6 @@ impl Entry for Line {
         bench.answer(self)
     }
 
-    fn may_begin(&self) -> bool {
-        true
-    }
-
     fn is_call(&self) -> bool {
         matches!(self, Line::Call(_))
     }

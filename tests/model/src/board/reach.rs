@@ -1,7 +1,6 @@
 //! What the random runs of boards reached, counted by name on the model. A run in
 //! which one of its counts stays small has not tested what it is for.
 
-mod counts;
 mod interrupts;
 mod refused;
 
@@ -9,12 +8,11 @@ pub use interrupts::own_bits;
 pub use refused::{goes_nowhere, granted, needs_a_select};
 
 use super::lines::{Bench, Line, Side};
-use super::{Board, Call, NOT_SELECTED, NO_SUCH_PORT, WRONG_ROOM};
+use super::{Board, Call, CHANNELS, NOT_SELECTED, NO_SUCH_PORT, WRONG_ROOM};
 use crate::calls::Lent;
 use crate::chip::Chip;
-use crate::reach::conclude;
+use crate::counts::Counts;
 use crate::Format;
-use counts::{Counts, ENOUGH};
 use std::process::ExitCode;
 
 /// The calls by the refusals that each can have.
@@ -112,10 +110,10 @@ impl Reach {
         counts.name((0..10).map(|count| format!("room of {count}")));
         counts.name(INSIDE.map(|name| format!("{name} inside a character")));
         for call in ON_CHANNELS {
-            counts.name_channels([format!("{call} of channel")]);
+            counts.name_places(CHANNELS, [format!("{call} of channel")]);
             counts.name(["the", "another"].map(|which| shown_after(which, call)));
         }
-        counts.name_channels(["reset of channel", "arrival on channel"]);
+        counts.name_places(CHANNELS, ["reset of channel", "arrival on channel"]);
         interrupts::name(&mut counts);
         refused::name(&mut counts);
         Reach { counts }
@@ -127,8 +125,7 @@ impl Reach {
     }
 
     pub fn conclude(&self) -> ExitCode {
-        let missing = format!("reached fewer than {ENOUGH} times");
-        conclude(self.report(), &missing)
+        self.counts.conclude()
     }
 
     fn count(&mut self, name: &str) {
@@ -225,7 +222,7 @@ impl Reach {
         self.count(&format!("{} done", call.name()));
         if let Some(channel) = channel(&side.board, call) {
             let name = format!("{} of channel", call.name());
-            self.counts.count_channel(&name, channel);
+            self.counts.count_place(&name, channel);
         }
         match call {
             Call::Reset => self.reset(side),
@@ -303,7 +300,7 @@ impl Reach {
         let fresh = Lent::InRange(Chip::just_reset());
         for (channel, lent) in side.channels().iter().enumerate() {
             if *lent != fresh {
-                self.counts.count_channel("reset of channel", channel);
+                self.counts.count_place("reset of channel", channel);
             }
         }
     }
@@ -346,7 +343,7 @@ impl Reach {
             return;
         }
         self.counts
-            .count_channel("arrival on channel", usize::from(channel));
+            .count_place("arrival on channel", usize::from(channel));
         if let Some(from) = sender(ticks, (board, channel), level) {
             let boards = if from == board {
                 "one board"

@@ -99,7 +99,7 @@ impl Chip {
     }
 }
 
-fn format_bytes(format: &Format) -> [u8; 5] {
+pub fn format_bytes(format: &Format) -> [u8; 5] {
     let [parity, even] = [format.parity, format.even].map(u32::from);
     [format.factor, format.length, parity, even, format.stop].map(|number| number as u8)
 }

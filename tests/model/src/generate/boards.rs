@@ -5,13 +5,12 @@
 //! may have changed, and what it must have left, is looked at behind it.
 
 use super::any_mode;
-use super::ranges::{device, spoilt};
+use super::ranges::{device, out_of_range, spoilt};
 use crate::board::lines::{Bench, Line, Side, PLACES};
 use crate::board::{Board, Call, CHANNELS};
 use crate::calls::DEVICE_BYTES;
 use crate::chip::decode;
 use crate::draw::Draws;
-use crate::ranges::in_range;
 
 pub const RUNS: u32 = 120;
 /// A run ends with the episode that brings it over this number of lines.
@@ -520,25 +519,4 @@ impl Run<'_> {
             _ => any,
         }
     }
-}
-
-/// A device out of range, which as often as not would have both interrupts by its
-/// own bits.
-fn out_of_range(draws: &mut Draws) -> [u8; DEVICE_BYTES] {
-    let mut bytes = device(draws);
-    match draws.below(6) {
-        0 => bytes = [255; DEVICE_BYTES],
-        1 | 2 => bytes = spoilt(draws, &bytes).1,
-        _ => {
-            // Transmit and receive on, nothing waiting, a character unread.
-            bytes[3] |= 5;
-            bytes[20..22].fill(0);
-            bytes[36] = 1;
-        }
-    }
-    if in_range(&bytes) {
-        // The mode pointer, a pin, a flag or a mark.
-        bytes[draws.of(&[7, 9, 11, 38, 42])] = draws.between(2, 255) as u8;
-    }
-    bytes
 }

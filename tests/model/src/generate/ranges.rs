@@ -3,9 +3,9 @@
 
 use super::any_mode;
 use crate::calls::DEVICE_BYTES;
-use crate::chip::decode;
+use crate::chip::{decode, format_bytes};
 use crate::draw::Draws;
-use crate::ranges::{bits_before, ticks_to};
+use crate::ranges::{bits_before, in_range, ticks_to};
 use crate::Format;
 
 /// The kind in the seeds, behind that of the calls.
@@ -44,17 +44,9 @@ pub fn device(draws: &mut Draws) -> [u8; DEVICE_BYTES] {
     bytes
 }
 
-fn format(draws: &mut Draws) -> (Format, [u8; 5]) {
+fn format(draws: &mut Draws) -> Format {
     let mode1 = any_mode(draws);
-    let format = decode(mode1, draws.one_in(4));
-    let numbers = [
-        format.factor,
-        format.length,
-        format.parity.into(),
-        format.even.into(),
-        format.stop,
-    ];
-    (format, numbers.map(|number| number as u8))
+    decode(mode1, draws.one_in(4))
 }
 
 fn sender(draws: &mut Draws) -> [u8; 11] {
@@ -65,10 +57,10 @@ fn sender(draws: &mut Draws) -> [u8; 11] {
         bytes[10] = at_edge(draws, 65) as u8;
         return bytes;
     }
-    let (format, numbers) = format(draws);
+    let format = format(draws);
     let place = 1 + at_edge(draws, format.frame_length() - 1);
     bytes[0] = draws.byte();
-    bytes[1..6].copy_from_slice(&numbers);
+    bytes[1..6].copy_from_slice(&format_bytes(&format));
     bytes[6..8].copy_from_slice(&(place as u16).to_le_bytes());
     bytes
 }
@@ -80,7 +72,7 @@ fn receiver(draws: &mut Draws) -> [u8; 11] {
     if bytes[0] < 2 {
         return bytes;
     }
-    let (format, numbers) = format(draws);
+    let format = format(draws);
     let stop_look = format.length + u32::from(format.parity) + 1;
     // With a factor of 1 there is no look but the first at the start.
     let first = u32::from(format.half() == 0);
@@ -89,7 +81,7 @@ fn receiver(draws: &mut Draws) -> [u8; 11] {
     bytes[2] = at_edge(draws, 1 << bits_before(&format, look)) as u8;
     bytes[3] = u8::from(format.parity && look == stop_look) * level(draws);
     bytes[4..6].copy_from_slice(&(look as u16).to_le_bytes());
-    bytes[6..11].copy_from_slice(&numbers);
+    bytes[6..11].copy_from_slice(&format_bytes(&format));
     bytes
 }
 
@@ -105,4 +97,25 @@ pub fn spoilt(draws: &mut Draws, device: &[u8; DEVICE_BYTES]) -> (usize, [u8; DE
         _ => draws.byte(),
     };
     (place, bytes)
+}
+
+/// A device out of range, which as often as not would have both interrupts by its
+/// own bits.
+pub fn out_of_range(draws: &mut Draws) -> [u8; DEVICE_BYTES] {
+    let mut bytes = device(draws);
+    match draws.below(6) {
+        0 => bytes = [255; DEVICE_BYTES],
+        1 | 2 => bytes = spoilt(draws, &bytes).1,
+        _ => {
+            // Transmit and receive on, nothing waiting, a character unread.
+            bytes[3] |= 5;
+            bytes[20..22].fill(0);
+            bytes[36] = 1;
+        }
+    }
+    if in_range(&bytes) {
+        // The mode pointer, a pin, a flag or a mark.
+        bytes[draws.of(&[7, 9, 11, 38, 42])] = draws.between(2, 255) as u8;
+    }
+    bytes
 }

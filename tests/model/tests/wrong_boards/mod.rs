@@ -12,7 +12,6 @@ mod selects;
 use model::board::lines::{Make, Side};
 use model::board::{Answer, Call};
 use model::calls::Lent;
-use model::chip::Chip;
 
 pub type Wrong = (&'static str, Make);
 
@@ -31,9 +30,7 @@ pub fn all() -> Vec<Wrong> {
 }
 
 fn settle(lent: &mut Lent) {
-    if let Lent::OutOfRange(_) = lent {
-        *lent = Lent::InRange(Chip::just_reset());
-    }
+    lent.settled();
 }
 
 /// The right answer, with something done behind a call that is done.

@@ -1,9 +1,9 @@
 //! The interrupts that were seen, channel by channel.
 
-use super::counts::Counts;
 use crate::board::lines::Side;
-use crate::board::{channels_that, pending, RECEIVE_READY, TRANSMIT_READY};
+use crate::board::{channels_that, pending, CHANNELS, RECEIVE_READY, TRANSMIT_READY};
 use crate::calls::Lent;
+use crate::counts::Counts;
 
 /// The status bit that the jumpers of channels 6 and 7 would make an interrupt.
 const EMPTY_OR_CHANGED: u8 = 4;
@@ -59,8 +59,8 @@ fn on_lines(kind: &Kind, what: &str) -> String {
 
 pub fn name(counts: &mut Counts) {
     for kind in &KINDS {
-        counts.name_channels(IN_A_PORT.map(|what| in_a_port(kind, what)));
-        counts.name_channels(ON_LINES.map(|what| on_lines(kind, what)));
+        counts.name_places(CHANNELS, IN_A_PORT.map(|what| in_a_port(kind, what)));
+        counts.name_places(CHANNELS, ON_LINES.map(|what| on_lines(kind, what)));
     }
 }
 
@@ -76,7 +76,7 @@ pub fn polled(counts: &mut Counts, side: &Side, port: u8) {
             own_bits(side.channels(), kind.bit),
         ];
         for (what, channels) in IN_A_PORT.iter().zip(facts) {
-            counts.count_channels(&in_a_port(kind, what), channels);
+            counts.count_places(&in_a_port(kind, what), channels);
         }
     }
 }
@@ -96,7 +96,7 @@ pub fn looked_at(counts: &mut Counts, side: &Side) {
             idle & own_bits(side.channels(), kind.bit),
         ];
         for (what, channels) in ON_LINES.iter().zip(facts) {
-            counts.count_channels(&on_lines(kind, what), channels);
+            counts.count_places(&on_lines(kind, what), channels);
         }
     }
 }

@@ -2,11 +2,11 @@
 //! changed, and the values that it kept back.
 
 use super::channel;
-use super::counts::Counts;
 use crate::board::lines::Side;
 use crate::board::{Call, CHANNELS, NOT_SELECTED, NO_SUCH_PORT, WRONG_ROOM};
 use crate::calls::Lent;
 use crate::chip::Chip;
+use crate::counts::Counts;
 
 /// What a refusal keeps: the board or a channel as it was, or a value back.
 enum Kept {

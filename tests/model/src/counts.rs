@@ -1,10 +1,12 @@
-//! Counts by name, one for a name or one for each channel.
+//! Counts by name: one for a name, or one for each of its places, as the channels
+//! of a board and the ways of a line.
 
-use crate::board::CHANNELS;
+use crate::reach::conclude;
 use std::collections::HashMap;
+use std::process::ExitCode;
 
 /// The least count that is enough.
-pub const ENOUGH: u64 = 40;
+const ENOUGH: u64 = 40;
 
 #[derive(Default)]
 pub struct Counts {
@@ -20,10 +22,14 @@ impl Counts {
         names.into_iter().for_each(|name| self.add(name.into(), 1));
     }
 
-    /// Names that have a count for each channel.
-    pub fn name_channels<N: Into<String>>(&mut self, names: impl IntoIterator<Item = N>) {
+    /// Names that have a count for each of some places.
+    pub fn name_places<N: Into<String>>(
+        &mut self,
+        places: usize,
+        names: impl IntoIterator<Item = N>,
+    ) {
         let names = names.into_iter();
-        names.for_each(|name| self.add(name.into(), CHANNELS));
+        names.for_each(|name| self.add(name.into(), places));
     }
 
     fn add(&mut self, name: String, counts: usize) {
@@ -48,14 +54,14 @@ impl Counts {
         }
     }
 
-    pub fn count_channel(&mut self, name: &str, channel: usize) {
-        self.of(name)[channel] += 1;
+    pub fn count_place(&mut self, name: &str, place: usize) {
+        self.of(name)[place] += 1;
     }
 
-    /// Counts channel k where bit k is set.
-    pub fn count_channels(&mut self, name: &str, channels: u8) {
-        for (channel, count) in self.of(name).iter_mut().enumerate() {
-            *count += u64::from(channels >> channel & 1);
+    /// Counts place k where bit k is set.
+    pub fn count_places(&mut self, name: &str, places: u8) {
+        for (place, count) in self.of(name).iter_mut().enumerate() {
+            *count += u64::from(places >> place & 1);
         }
     }
 
@@ -71,5 +77,11 @@ impl Counts {
             whole &= !few;
         }
         (text, whole)
+    }
+
+    /// Prints the report; the status of a program that counts.
+    pub fn conclude(&self) -> ExitCode {
+        let missing = format!("reached fewer than {ENOUGH} times");
+        conclude(self.report(), &missing)
     }
 }

@@ -1,0 +1,249 @@
+//! The random runs of pairs: a right driver is found right, each wrong one wrong, and
+//! what the runs reach is counted.
+
+mod wrong_pairs;
+
+use model::calls::{Call as ChipCall, DEVICE_BYTES};
+use model::chip::set_up;
+use model::driver::{self, text};
+use model::generate::pairs::{run, RUNS};
+use model::pair::hearing::in_step;
+use model::pair::lines::{Bench, Line, Make};
+use model::pair::reach::Reach;
+use model::pair::{Call, Pair};
+use model::session::Unit;
+use model::Format;
+
+/// The shortest run that shows a pair to be wrong, if one does.
+fn found(make: Make) -> Option<Vec<Line>> {
+    driver::found((0..RUNS).map(run), || Bench::new(make))
+}
+
+#[test]
+fn a_right_pair_is_found_right() {
+    assert_eq!(found(Pair::call), None);
+}
+
+#[test]
+fn each_wrong_pair_is_found() {
+    for (name, make) in wrong_pairs::all() {
+        let found = found(make).expect(name);
+        // At most two ends that are set up, some characters and runs, what shows it.
+        assert!(found.len() <= 24, "{name}:\n{}", text(&found));
+    }
+}
+
+#[test]
+fn a_difference_is_shortened_to_its_calls() {
+    for (name, shortest) in [
+        ("65535 is refused", "run 65535\n"),
+        ("65536 is taken", "run 65536\n"),
+        ("a length is cut to 16 bits", "run 65536\n"),
+        ("a run of 0 is refused", "run 0\n"),
+        ("a tick answers one level", "tick\n"),
+    ] {
+        let all = wrong_pairs::all();
+        let wrong = all.iter().find(|(known, _)| *known == name);
+        let lines = found(wrong.expect("a wrong pair").1).expect(name);
+        assert_eq!(text(&lines), shortest);
+    }
+}
+
+#[test]
+fn each_seed_gives_one_run_and_no_other() {
+    assert_eq!(run(7), run(7));
+    assert_ne!(run(7), run(8));
+}
+
+// What was reached.
+
+/// The counts of a name in what some lines reached.
+fn reached(lines: &[Line], name: &str) -> String {
+    let mut reach = Reach::of_pairs();
+    reach.run(lines);
+    let (report, _) = reach.report();
+    let begins = format!("{name}: ");
+    let mut counts = report.lines().filter_map(|line| line.strip_prefix(&begins));
+    let counts = counts.next().unwrap_or_else(|| panic!("no {name}"));
+    counts.trim_end_matches(" MISSING").to_string()
+}
+
+#[test]
+fn what_was_reached_too_seldom_is_missing() {
+    let (report, whole) = Reach::of_pairs().report();
+    assert!(!whole && report.lines().all(|line| line.ends_with(" MISSING")));
+    for (count, note) in [(39, " MISSING"), (40, "")] {
+        let mut reach = Reach::of_pairs();
+        reach.run(&vec![Line::Call(Call::Tick); count]);
+        let line = format!("tick that answers 3: {count}{note}\n");
+        assert!(reach.report().0.contains(&line), "{line}");
+    }
+}
+
+/// A run and a look behind it.
+fn shown(ticks: u32) -> [Line; 2] {
+    [Line::Call(Call::Run(ticks)), Line::Bytes]
+}
+
+#[test]
+fn lengths_are_counted_where_the_pair_is_shown() {
+    let name = |length: &str| format!("run of {length}, shown");
+    let lines = [0, 1, 65_535, 65_536, 65_543, u32::MAX].map(shown).concat();
+    for (length, count) in [
+        ("0", "1"),
+        ("1", "1"),
+        ("2 to 999", "0"),
+        ("65535", "1"),
+        ("65536", "1"),
+        ("65537 to 4294967294", "1"),
+        ("4294967295", "1"),
+        ("a multiple of 65536", "1"),
+        ("a multiple of 65536 and 1 to 999", "1"),
+    ] {
+        assert_eq!(reached(&lines, &name(length)), count, "{length}");
+    }
+    let unseen = [Line::Call(Call::Run(1)), Line::Call(Call::Tick)];
+    assert_eq!(reached(&unseen, &name("1")), "0");
+}
+
+#[test]
+fn devices_out_of_range_are_counted() {
+    let mut spoilt = set_up(77, 0, 5).bytes();
+    spoilt[7] = 2;
+    for (units, range) in [
+        (&[][..], "both in range"),
+        (&[Unit::A], "a out of range"),
+        (&[Unit::B], "b out of range"),
+        (&[Unit::A, Unit::B], "both out of range"),
+    ] {
+        let devices: Vec<Line> = units
+            .iter()
+            .map(|unit| Line::Device(*unit, spoilt))
+            .collect();
+        for (ticks, called) in [(0, "run of 0"), (65_536, "refused run"), (1, "run of more")] {
+            let lines = [&devices[..], &shown(ticks)].concat();
+            let name = format!("{called} with {range}, shown");
+            assert_eq!(reached(&lines, &name), "1", "{name}");
+        }
+    }
+}
+
+/// 8 bits, no parity, a stop bit, 16 ticks a bit: mode 1 is 78.
+const FORMAT: Format = Format {
+    factor: 16,
+    length: 8,
+    parity: false,
+    even: false,
+    stop: 16,
+};
+const CHARACTER: u8 = 65;
+
+/// An end that is on, with a frame at a place and a receiver that has heard some of
+/// the same frame.
+fn end(place: u16, heard: usize) -> [u8; DEVICE_BYTES] {
+    let mut bytes = set_up(78, 0, 5).bytes();
+    bytes[12..18].copy_from_slice(&[CHARACTER, 16, 8, 0, 0, 16]);
+    bytes[18..20].copy_from_slice(&place.to_le_bytes());
+    bytes[24..35].copy_from_slice(&in_step(&FORMAT, CHARACTER, heard));
+    bytes
+}
+
+/// The two ends, and a run behind them.
+fn lines(a: [u8; DEVICE_BYTES], b: [u8; DEVICE_BYTES], ticks: u32) -> Vec<Line> {
+    let devices = [Line::Device(Unit::A, a), Line::Device(Unit::B, b)];
+    [devices, shown(ticks)].concat()
+}
+
+#[test]
+fn what_a_run_ends_beside_is_counted() {
+    // The frame from a has 160 ticks, its stop sample is the 153rd; b has none.
+    let mut silent = end(1, 1);
+    silent[12..20].fill(0);
+    let (before, with, behind) = ("one tick before", "with", "one tick behind");
+    for (ticks, beside, what) in [
+        (158, before, "a frame's last tick"),
+        (159, with, "a frame's last tick"),
+        (160, behind, "a frame's last tick"),
+        (151, before, "a stop sample"),
+        (152, with, "a stop sample"),
+        (153, behind, "a stop sample"),
+        (7, before, "a look within a character"),
+        (8, with, "a look within a character"),
+    ] {
+        let lines = lines(end(1, 0), silent, ticks);
+        let name = format!("run that ends {beside} {what}, by way");
+        assert_eq!(reached(&lines, &name), "1 0", "{ticks}: {name}");
+        let other = format!("run that ends {beside} a start, by way");
+        assert_eq!(reached(&lines, &other), "0 0");
+    }
+}
+
+#[test]
+fn where_a_receiver_stands_to_its_frame_is_counted() {
+    let nearly = |place: usize, value: u8| {
+        let mut bytes = end(50, 60);
+        assert_ne!(bytes[place], value);
+        bytes[place] = value;
+        bytes
+    };
+    let mut waiting = end(50, 0);
+    waiting[24] = 0;
+    // The frame from a is at 60, its receiver where the one from b, at 50, puts it.
+    for (b, standing, counts) in [
+        (end(50, 60), "in step", "1 1"),
+        (nearly(25, 3), "in step but for its countdown", "1 0"),
+        (nearly(26, 3), "in step but for one bit of its value", "1 0"),
+        (
+            nearly(34, 32),
+            "in step but for the stop of its format",
+            "1 0",
+        ),
+        (
+            nearly(31, 7),
+            "in step but for the length of its format",
+            "1 0",
+        ),
+        (end(50, 76), "in step but for its look", "1 0"),
+        (end(50, 56), "a tick behind", "0 0"),
+        (end(50, 0), "searching before the stop sample", "1 0"),
+        (waiting, "waiting", "1 0"),
+    ] {
+        let lines = lines(end(60, 50), b, 1);
+        let name = format!("run that begins with a receiver {standing}, by way");
+        assert_eq!(reached(&lines, &name), counts, "{name}");
+    }
+}
+
+#[test]
+fn what_a_run_does_is_counted_by_way() {
+    let both = lines(end(60, 50), end(50, 60), 120);
+    for (name, counts) in [
+        ("run with a frame's last tick, by way", "1 1"),
+        ("run with a stop sample, by way", "1 1"),
+        ("run with an overrun flag, by way", "0 0"),
+        ("run with a character heard as it is sent, by way", "1 1"),
+        ("run that begins within a frame, by way", "1 1"),
+        ("run that ends within a frame, by way", "0 0"),
+        ("run that brings one character, by way", "1 1"),
+        ("run that brings characters both ways", "1"),
+    ] {
+        assert_eq!(reached(&both, name), counts, "{name}");
+    }
+    let name = "run that begins within frames both ways, at different places";
+    assert_eq!(reached(&both, name), "1");
+}
+
+#[test]
+fn a_break_and_its_guard_are_counted_by_way() {
+    // A break from b alone, and 8 ticks of the 16 behind it.
+    let broken = lines(set_up(78, 0, 5).bytes(), set_up(78, 0, 13).bytes(), 2000);
+    let ended = Line::Call(Call::On(Unit::B, ChipCall::Write(3, 5)));
+    let lines = [&broken[..], &[ended], &shown(8)].concat();
+    let counts = |what: &str| reached(&lines, &format!("run that {what}, by way"));
+    assert_eq!(counts("has a break throughout"), "0 1");
+    assert_eq!(counts("is long, with a break throughout"), "0 1");
+    assert_eq!(counts("is long and at mark throughout"), "1 0");
+    assert_eq!(counts("leaves a part of a guard"), "0 1");
+    assert_eq!(counts("has the receiver wait at 0 throughout"), "0 1");
+    assert_eq!(counts("runs a guard down"), "0 0");
+}

@@ -1,0 +1,105 @@
+//! Wrong pairs: what each does with a call. `all` names them.
+
+mod edges;
+mod lengths;
+mod lines;
+mod ranges;
+mod receivers;
+mod senders;
+mod step;
+
+use model::calls::{Lent, DEVICE_BYTES};
+use model::pair::lines::Make;
+use model::pair::{Answer, Call, Pair, RUN_LIMIT};
+use model::session::{Unit, UNITS};
+
+pub type Wrong = (&'static str, Make);
+
+pub fn all() -> Vec<Wrong> {
+    [
+        lengths::ALL,
+        ranges::ALL,
+        lines::ALL,
+        senders::ALL,
+        receivers::ALL,
+        edges::ALL,
+        step::ALL,
+    ]
+    .concat()
+}
+
+/// Runs that are done otherwise; other calls are right, also runs of 0.
+fn ran(pair: &mut Pair, call: &Call, run: impl Fn(&mut Pair, u32)) -> Answer {
+    match *call {
+        Call::Run(ticks @ 1..=RUN_LIMIT) => {
+            run(pair, ticks);
+            (0, vec![0])
+        }
+        _ => pair.call(call),
+    }
+}
+
+/// Runs in which something is done to each end behind each tick, by its bytes before
+/// the tick.
+fn behind_ticks(pair: &mut Pair, call: &Call, further: fn(&Bytes, &mut Bytes)) -> Answer {
+    ran(pair, call, |pair, ticks| {
+        for _ in 0..ticks {
+            settle(pair);
+            let before = UNITS.map(|unit| pair.end(unit).bytes());
+            pair.tick();
+            for (unit, before) in UNITS.into_iter().zip(before) {
+                change(pair, unit, |after| further(&before, after));
+            }
+        }
+    })
+}
+
+/// Runs in which each end is changed before each tick.
+fn before_ticks(pair: &mut Pair, call: &Call, first: fn(&mut Bytes)) -> Answer {
+    ran(pair, call, |pair, ticks| {
+        for _ in 0..ticks {
+            settle(pair);
+            UNITS.into_iter().for_each(|unit| change(pair, unit, first));
+            pair.tick();
+        }
+    })
+}
+
+/// The bytes of a device (docs/RANGES.md).
+type Bytes = [u8; DEVICE_BYTES];
+
+// The places of what the wrong pairs look at.
+const MODE1: usize = 0;
+const COMMAND: usize = 3;
+const CTS: usize = 11;
+const PLACE: usize = 18;
+const FULL: usize = 21;
+const GUARD: usize = 22;
+const PHASE: usize = 24;
+const UNREAD: usize = 36;
+const FRAMING: usize = 38;
+const OVERRUN: usize = 39;
+const PARITY: usize = 40;
+const EMPTY_MARK: usize = 41;
+
+// The bits of the command.
+const TRANSMIT: u8 = 1;
+const RECEIVE: u8 = 4;
+const BREAK: u8 = 8;
+
+fn change(pair: &mut Pair, unit: Unit, change: impl Fn(&mut Bytes)) {
+    let mut bytes = pair.end(unit).bytes();
+    change(&mut bytes);
+    *pair.end_mut(unit) = Lent::of_bytes(bytes);
+}
+
+fn settle(pair: &mut Pair) {
+    UNITS.into_iter().for_each(|unit| {
+        pair.end_mut(unit).settled();
+    });
+}
+
+/// A frame is under way; its place has two bytes.
+fn sending(bytes: &Bytes) -> bool {
+    bytes[PLACE] != 0 || bytes[PLACE + 1] != 0
+}
