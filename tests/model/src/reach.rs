@@ -61,6 +61,27 @@ const OF_SESSIONS: [&str; 8] = [
     "missing last newline",
 ];
 
+type Fact = (&'static str, fn(&View) -> bool);
+
+/// How the longest count of ticks of a session begins, at one of the units.
+const LONGEST: [Fact; 9] = [
+    ("at mark", |view| view.at_mark() && !view.waiting),
+    ("in a break", View::in_break),
+    ("within a frame, another waiting", |view| {
+        view.sending && view.waiting
+    }),
+    ("within a guard", |view| view.guard > 0 && !view.in_break()),
+    ("with transmit off", View::transmit_off),
+    ("with CTS high", View::cts_high),
+    ("with receive off", View::receive_off),
+    ("with DCD high", View::dcd_high),
+    ("with no mode", View::no_mode),
+];
+
+fn longest(how: &str) -> String {
+    format!("L 65535 {how}")
+}
+
 /// What only calls can reach.
 const OF_CALLS: [&str; 7] = [
     "ticks of both",
@@ -85,7 +106,8 @@ pub struct Reach {
 impl Reach {
     pub fn of_sessions() -> Reach {
         let names = OF_SESSIONS.into_iter().chain(reached::NAMES);
-        Reach::of(names.map(String::from).collect())
+        let longest = LONGEST.iter().map(|(how, _)| longest(how));
+        Reach::of(names.map(String::from).chain(longest).collect())
     }
 
     pub fn of_calls() -> Reach {
@@ -277,6 +299,16 @@ impl Reach {
         }
     }
 
+    /// The longest count of ticks, on two chips.
+    fn ran_longest(&mut self, before: &[View; 2]) {
+        for (how, holds) in LONGEST {
+            before
+                .iter()
+                .filter(|view| holds(view))
+                .for_each(|_| self.count(&longest(how)));
+        }
+    }
+
     /// What a session of demand 3 reached by its text and answer.
     pub fn delivered(&mut self, names: &[&str]) {
         names.iter().for_each(|name| self.count(name));
@@ -410,6 +442,9 @@ impl Bench for Watched<'_> {
         let index = |unit: Unit| usize::from(unit == Unit::B);
         let before = self.views();
         if let Record::JoinedTicks(count) = record {
+            if count == u16::MAX {
+                self.reach.ran_longest(&before);
+            }
             return (0..count).map(|_| self.tick()).collect();
         }
         let answer = self.pair.act(record)?;

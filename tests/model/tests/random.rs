@@ -232,6 +232,16 @@ fn a_count_of_one_too_many_that_is_taken_is_found() {
 }
 
 #[test]
+fn a_longest_count_that_is_cut_short_is_found() {
+    let cut = |line: &[u8]| match line {
+        b"L\t65535" => b"L\t100".to_vec(),
+        _ => line.to_vec(),
+    };
+    let shortest = found(Kind::Realistic, |input| answer_to_changed(input, cut));
+    assert!(lines(&shortest) <= 10, "{}", shortest.escape_ascii());
+}
+
+#[test]
 fn flags_that_a_command_with_receive_on_clears_are_found() {
     // 55 is 39 with reset error.
     let clearing = |line: &[u8]| match line {
@@ -285,13 +295,6 @@ impl WrongDriver {
     }
 }
 
-/// A device in range in place of one that is not.
-fn mend(lent: &mut Lent) {
-    if let Lent::OutOfRange(..) = lent {
-        *lent = Lent::InRange(Chip::just_reset());
-    }
-}
-
 /// Whether a line shows that a device was mended.
 fn shows_the_device(line: &Line) -> bool {
     matches!(line, Line::Bytes | Line::Call(Call::InRange))
@@ -318,7 +321,7 @@ fn answers_too_few_or_too_many_are_found() {
 fn a_device_mended_by_a_refused_call_is_found() {
     let after = |lent: &mut Lent, line: &Line, _: &mut String| {
         if let Line::Call(Call::Read(4..) | Call::Write(4.., _)) = line {
-            mend(lent);
+            lent.settled();
         }
     };
     let found = WrongDriver { after, ..RIGHT }.found();
@@ -331,7 +334,7 @@ fn a_device_mended_by_a_refused_call_is_found() {
 fn a_device_mended_by_a_look_at_the_outputs_is_found() {
     let after = |lent: &mut Lent, line: &Line, _: &mut String| {
         if let Line::Call(Call::Outputs) = line {
-            mend(lent);
+            lent.settled();
         }
     };
     let found = WrongDriver { after, ..RIGHT }.found();
@@ -344,7 +347,7 @@ fn a_device_mended_by_a_look_at_the_outputs_is_found() {
 fn a_device_mended_by_a_look_at_its_range_is_found() {
     let after = |lent: &mut Lent, line: &Line, _: &mut String| {
         if let Line::Call(Call::InRange) = line {
-            mend(lent);
+            lent.settled();
         }
     };
     let found = WrongDriver { after, ..RIGHT }.found();

@@ -1,6 +1,6 @@
 //! A bench at work: both ends set up, characters written when they may be, reads
 //! mostly in time; now and then a break, a short pulse, a pin, a reset, or
-//! another mode at one end.
+//! another mode at one end, and the longest count of ticks.
 
 use super::{accepted_mode, any_mode, other, Script, UNITS};
 use crate::chip::{decode, INTERNAL_RECEIVE_CLOCK, INTERNAL_TRANSMIT_CLOCK};
@@ -11,6 +11,8 @@ use crate::Format;
 /// Joined ticks of a session, more or less, and steps at most.
 const TICKS: u32 = 4000;
 const STEPS: u32 = 40;
+/// L of the longest frames: 64 ticks a bit, 8 bits, parity and two stop bits.
+const LONGEST_FRAME: u32 = 768;
 
 /// Transmit, DTR, receive and RTS ("Registers").
 const COMMAND: u8 = 39;
@@ -36,6 +38,10 @@ pub fn session(draws: &mut Draws, index: u32) -> Vec<u8> {
             break;
         }
         step(&mut script, draws);
+    }
+    // The longest count is dear, so few sessions have one.
+    if draws.one_in(5) {
+        longest(&mut script, draws);
     }
     for unit in UNITS {
         look(&mut script, unit);
@@ -189,4 +195,53 @@ fn switch_off(script: &mut Script, draws: &mut Draws, unit: Unit) {
         script.read(unit, 0);
     }
     script.write(unit, 3, COMMAND);
+}
+
+/// The longest count of ticks, with both ends idle or full, with a break, or with one
+/// end off in some way; then a character, which shows what it left.
+fn longest(script: &mut Script, draws: &mut Draws) {
+    for unit in UNITS {
+        if script.pair.chip(unit).view().no_mode() {
+            another_mode(script, draws, unit);
+        }
+        script.write(unit, 3, COMMAND);
+        script.pins(unit, [0, 0, 0]);
+    }
+    // What is under way ends.
+    script.tick(4 * LONGEST_FRAME);
+    let unit = draws.of(&UNITS);
+    let waits = draws.byte();
+    match draws.below(12) {
+        0 => {}
+        1 | 9 => script.write(unit, 3, COMMAND | BREAK),
+        2 => script.write(unit, 3, COMMAND & !TRANSMIT),
+        3 => script.write(unit, 3, COMMAND & !RECEIVE),
+        4 => script.pins(unit, [0, 1, 0]),
+        5 => script.pins(unit, [0, 0, 1]),
+        6 => script.add(Record::Reset(unit)),
+        7 | 10 => {
+            script.write(unit, 3, COMMAND | BREAK);
+            script.tick(1);
+            script.write(unit, 3, COMMAND);
+        }
+        _ => UNITS.into_iter().for_each(|unit| fill(script, draws, unit)),
+    }
+    if draws.one_in(3) {
+        script.write(unit, 0, waits);
+    }
+    script.add(Record::JoinedTicks(u16::MAX));
+    for unit in UNITS {
+        look(script, unit);
+    }
+    script.write(unit, 3, COMMAND);
+    script.pins(unit, [0, 0, 0]);
+    exchange(script, draws, unit);
+}
+
+/// A character under way, and one waiting.
+fn fill(script: &mut Script, draws: &mut Draws, unit: Unit) {
+    for _ in 0..2 {
+        script.write(unit, 0, draws.byte());
+        script.tick(1);
+    }
 }
