@@ -12,8 +12,6 @@ use Rattle.line_rules.proofs.Table.{both}
 use Rattle.line_rules.proofs.Choice.{not-so}
 use Rattle.link_rules.specs.declared.SenderHalf.{SenderHalf}
 use Rattle.link_rules.specs.declared.ReceiverHalf.{ReceiverHalf}
-use Rattle.link_rules.specs.declared.Sent.{Sent}
-use Rattle.link_rules.specs.Parts.{withGuard}
 use Rattle.link_rules.specs.Transmitting.{idleTick, transmit}
 use Rattle.link_rules.specs.Hearing.{receive}
 use Rattle.link_rules.specs.Within.{receiverInRange, clear}

@@ -9,7 +9,7 @@ use lib.Dec.{ltb}
 use borrow.Author.Tests.{lt-ltb, le-ltb, ltb-true, ltb-false}
 use Rattle.joined_rules.specs.declared.Pair.{Pair}
 use Rattle.joined_rules.specs.declared.Ran.{Ran}
-use Rattle.joined_rules.specs.Joining.{runRefusal, run, ticks, settledPair, joinedTicks}
+use Rattle.joined_rules.specs.Joining.{run, ticks, settledPair, joinedTicks}
 use Rattle.joined_rules.proofs.Runs.{settled-both, settled-pair, settled-ticks}
 
 pub run-refused : (p : Pair) (n : ℕ) → 65535 < n → run p n ≡ record { refusal = 16; pair = p }

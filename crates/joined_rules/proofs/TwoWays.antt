@@ -2,22 +2,18 @@
 -- Assumes nothing.
 use Prim.Native.Nat.{ℕ, zero, suc}
 use mathlib.Core.Path.{_≡_, refl, ap, ap₂, _∙_}
-use mathlib.Core.Bool.{Bool, _&&_}
+use mathlib.Core.Bool.{Bool}
 use Rattle.line_rules.specs.declared.Heard.{Heard}
 use Rattle.line_rules.specs.declared.Heard.the-variants.{Nothing, Character}
-use Rattle.line_rules.specs.Sending.{bit, on}
+use Rattle.line_rules.specs.Sending.{on}
 use Rattle.line_rules.proofs.Bits.{on-bit}
-use Rattle.link_rules.specs.declared.Received.{Received}
-use Rattle.way_rules.specs.declared.Way.{Way}
 use Rattle.way_rules.specs.Along as along
-use Rattle.way_rules.specs.Along.{wayTick, wayTicks}
+use Rattle.way_rules.specs.Along.{wayTick}
 use Rattle.ins2651_rules.specs.declared.Flags.{Flags}
 use Rattle.ins2651_rules.specs.declared.Device.{Device}
 use Rattle.ins2651_rules.specs.Shape.{withParts, withErrors}
-use Rattle.ins2651_rules.specs.Conditions.{transmitEnabled}
 use Rattle.ins2651_rules.specs.Ticks.{sent, transmitTick, received, noted, receivedBy, receiveTick}
 use Rattle.joined_rules.specs.declared.Pair.{Pair}
-use Rattle.joined_rules.specs.declared.Joined.{Joined}
 use Rattle.joined_rules.specs.Joining.{joinedTick, joinedTicks}
 use Rattle.joined_rules.specs.TwoWays.{endsOf, wayOf, withEnds, withWays, alongBoth}
 

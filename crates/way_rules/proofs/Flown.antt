@@ -1,19 +1,18 @@
 -- A receiver in step with a frame stays so from look to look: whole bits pass at once.
 -- Assumes nothing.
 use Prim.Native.Nat.{ℕ, zero, suc, _+_, _*_, _-_, _^_, _/_, _%_, _≤_, _<_}
-use native.Mathlib.Nat.{add-zero, add-suc, mul-zero, pow-suc, div-add-mod', mod-lt, mod-le, mod-eq-of-lt, mul-add-mod-self-left, mul-le-mul-right, mul-le-mul-left, mul-comm, le-div-iff-mul-le, mod-one}
+use native.Mathlib.Nat.{add-zero, mul-zero, pow-suc, mod-le, mod-eq-of-lt, mul-le-mul-left, mul-comm, le-div-iff-mul-le, mod-one}
 use native.Mathlib.Omega.{arith}
 use mathlib.Core.Path.{_≡_, refl, ap, ap₂, sym, _∙_}
-use mathlib.Core.Bool.{Bool, true, false, cond, _&&_}
+use mathlib.Core.Bool.{Bool, true, false, _&&_}
 use lib.Dec.{ltb, eqb}
 use lib.Pow.{pow-pos}
-use borrow.Author.Tests.{eqb-true, ltb-true, ltb-false, lt-ltb, le-ltb}
+use borrow.Author.Tests.{eqb-true, ltb-true, ltb-false, lt-ltb}
 use Rattle.line_rules.specs.declared.Format.{Format}
 use Rattle.line_rules.specs.declared.Receiver.{Receiver}
-use Rattle.line_rules.specs.declared.Sampled.{Sampled}
-use Rattle.line_rules.specs.Sending.{bit, on, differ, half, parityBits, frameLength, cut, parityBit, bitAt, part, parityLevel, levelOf, level, orSet}
-use Rattle.line_rules.specs.Receiving.{assembling, quiet, withBit, lookNext, parityLook, stopLook, sample}
-use Rattle.line_rules.specs.Sees.{Sees, Alike}
+use Rattle.line_rules.specs.Sending.{bit, on, differ, half, parityBits, frameLength, cut, parityBit, bitAt, levelOf, level, orSet}
+use Rattle.line_rules.specs.Receiving.{assembling, quiet, withBit, lookNext, sample}
+use Rattle.line_rules.specs.Sees.{Alike}
 use Rattle.line_rules.proofs.Parts.{part-data, part-parity}
 use Rattle.line_rules.proofs.ReadBack.{bit-eqb, mod-double, same}
 use Rattle.line_rules.proofs.Flight.{alike-sees}
@@ -21,7 +20,6 @@ use Rattle.line_rules.proofs.Table.{both}
 use Rattle.link_rules.specs.declared.Frame.{Frame}
 use Rattle.link_rules.specs.declared.SenderHalf.{SenderHalf}
 use Rattle.link_rules.specs.declared.ReceiverHalf.{ReceiverHalf}
-use Rattle.link_rules.specs.declared.Received.{Received}
 use Rattle.link_rules.specs.declared.Sent.{Sent}
 use Rattle.link_rules.specs.Parts.{withFrame}
 use Rattle.link_rules.specs.Transmitting.{frameAt, frameTick}
@@ -30,10 +28,10 @@ use Rattle.link_rules.proofs.AtRest.{quietly}
 use Rattle.link_rules.proofs.Halves.{transmit-under, receive-under}
 use Rattle.way_rules.specs.declared.Ends.{Ends}
 use Rattle.way_rules.specs.declared.Way.{Way}
-use Rattle.way_rules.specs.Along.{sent, received, sentBy, heardBy, wayTick, wayTicks}
+use Rattle.way_rules.specs.Along.{received, sentBy, heardBy, wayTick, wayTicks}
 use Rattle.way_rules.specs.Calm.{least, placesLeft, senderCalm, senderKeeps, heardCalm, wayCalm, waySkipped}
 use Rattle.way_rules.specs.Leap.{lastLook, soFar, sameBits, bothBusy, inStep, flyAt, leapTicks, Ahead}
-use Rattle.way_rules.proofs.Branches.{Least, least-both, least-is, least-above, least-first, least-second}
+use Rattle.way_rules.proofs.Branches.{least-both, least-is, least-above, least-first, least-second}
 use Rattle.way_rules.proofs.Senders.{at, within, moves, frame-is, frame-stays, skips-frame, frame-calm}
 use Rattle.way_rules.proofs.Receivers.{looks-calm}
 use Rattle.way_rules.proofs.Ways.{skips, ticks-add}

@@ -6,7 +6,7 @@ use native.Mathlib.Omega.{arith}
 use mathlib.Core.Path.{_≡_, refl, ap, sym, _∙_}
 use mathlib.Core.Bool.{Bool, true, false, cond, not, _&&_, true≢false}
 use lib.Dec.{ltb, eqb}
-use borrow.Author.Tests.{lt-ltb, le-ltb, le-leb, ltb-true, ltb-false, leb-true, eqb-true, ne-eqb}
+use borrow.Author.Tests.{lt-ltb, ltb-true, ltb-false, leb-true, eqb-true, ne-eqb}
 use Rattle.line_rules.specs.declared.Format.{Format}
 use Rattle.line_rules.specs.Sending.{bit, on, frameLength, levelOf, level}
 use Rattle.line_rules.proofs.Choice.{either, each, not-so}

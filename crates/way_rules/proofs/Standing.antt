@@ -1,9 +1,9 @@
 -- A way that stands is left as it is by any number of ticks.
 -- Assumes nothing.
-use Prim.Native.Nat.{ℕ, zero, suc, _-_, _≤_}
+use Prim.Native.Nat.{ℕ, zero, suc, _-_}
 use native.Mathlib.Omega.{arith}
 use mathlib.Core.Path.{_≡_, refl, ap, ap₂, sym, _∙_}
-use mathlib.Core.Bool.{Bool, true, false, cond, not, _&&_}
+use mathlib.Core.Bool.{Bool, true, false, not}
 use lib.Dec.{eqb}
 use borrow.Author.Tests.{eqb-true}
 use Rattle.line_rules.specs.Sending.{bit, on}
@@ -11,18 +11,16 @@ use Rattle.line_rules.proofs.Choice.{not-so}
 use Rattle.line_rules.proofs.Table.{both}
 use Rattle.link_rules.specs.declared.SenderHalf.{SenderHalf}
 use Rattle.link_rules.specs.declared.ReceiverHalf.{ReceiverHalf}
-use Rattle.link_rules.specs.declared.Received.{Received}
 use Rattle.link_rules.specs.declared.Sent.{Sent}
-use Rattle.link_rules.specs.Parts.{withGuard}
-use Rattle.link_rules.specs.Transmitting.{breakTick, idleTick, transmit}
+use Rattle.link_rules.specs.Transmitting.{idleTick, transmit}
 use Rattle.link_rules.specs.Hearing.{receive}
 use Rattle.link_rules.specs.Within.{clear}
-use Rattle.link_rules.proofs.AtRest.{resting, quietly, is-clear, Stays, rests-on, stays-off, rest-stays}
+use Rattle.link_rules.proofs.AtRest.{quietly, is-clear, rests-on, stays-off, rest-stays}
 use Rattle.way_rules.specs.declared.Ends.{Ends}
 use Rattle.way_rules.specs.declared.Way.{Way}
-use Rattle.way_rules.specs.Along.{sent, received, sentBy, heardBy, wayTick, wayTicks}
+use Rattle.way_rules.specs.Along.{received, sentBy, heardBy, wayTick, wayTicks}
 use Rattle.way_rules.specs.Calm.{breaks, senderStands, receiverStands, wayStands}
-use Rattle.way_rules.proofs.Senders.{break-tick, rest-tick, unguarded}
+use Rattle.way_rules.proofs.Senders.{break-tick, rest-tick}
 
 -- the sender's tick sends the level of its break or of its rest, and changes nothing
 sender-stands : (e : Ends) (s : SenderHalf) → senderStands s (e .ready) (e .broken) (e .send .factor) ≡ true

@@ -1,15 +1,15 @@
 -- What the ways out of a tick's code are by the definitions.
 -- Assumes nothing.
-use Prim.Native.Nat.{ℕ, zero, suc, _+_, _-_, _/_, _≤_, _<_}
+use Prim.Native.Nat.{ℕ, _+_, _-_, _≤_, _<_}
 use native.Mathlib.Nat.{zero-div}
 use native.Mathlib.Omega.{arith}
 use mathlib.Core.Path.{_≡_, refl, ap, ap₂, sym, _∙_}
 use mathlib.Core.Bool.{Bool, true, false, cond, not, _&&_}
-use lib.Dec.{ltb, eqb}
-use borrow.Author.Tests.{ltb-true, ltb-false, eqb-true, eqb-false, lt-ltb, le-ltb, eq-eqb, ne-eqb}
+use lib.Dec.{eqb}
+use borrow.Author.Tests.{eqb-false, lt-ltb, le-ltb, eq-eqb, ne-eqb}
 use Rattle.line_rules.specs.declared.Format.{Format}
 use Rattle.line_rules.specs.Sending.{bit, on, differ, half, parityBits, parityBit, levelOf, level, orSet}
-use Rattle.line_rules.specs.Receiving.{under, lookNext, parityLook, stopLook, withBit, lookAt, sample}
+use Rattle.line_rules.specs.Receiving.{under, stopLook, withBit, lookAt, sample}
 use Rattle.line_rules.proofs.Branches.{look-part, under-counts}
 use Rattle.line_rules.proofs.Parts.{part-data, part-parity, part-stop}
 use Rattle.link_rules.specs.declared.Frame.{Frame}

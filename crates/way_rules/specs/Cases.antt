@@ -6,11 +6,9 @@ use mathlib.Core.Bool.{Bool, true, false}
 use mathlib.Core.List.{List, [], _∷_}
 use Rattle.line_rules.specs.declared.Format.{Format}
 use Rattle.line_rules.specs.Receiving.{atRest}
-use Rattle.link_rules.specs.declared.Frame.{Frame}
 use Rattle.link_rules.specs.declared.SenderHalf.{SenderHalf}
 use Rattle.link_rules.specs.declared.ReceiverHalf.{ReceiverHalf}
 use Rattle.link_rules.specs.Parts.{noFormat, noFrame}
-use Rattle.way_rules.specs.declared.Faults.{Faults}
 use Rattle.way_rules.specs.declared.Ends.{Ends}
 use Rattle.way_rules.specs.declared.Way.{Way}
 use Rattle.way_rules.specs.Along.{wayTicks}

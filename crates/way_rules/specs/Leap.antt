@@ -4,19 +4,17 @@
 use Prim.Native.Nat.{ℕ, suc, _+_, _*_, _-_, _^_, _%_, _≤_, _<_}
 use mathlib.Core.Path.{_≡_}
 use mathlib.Core.Bool.{Bool, _&&_}
-use lib.Dec.{leb, eqb}
+use lib.Dec.{eqb}
 use Rattle.line_rules.specs.declared.Format.{Format}
 use Rattle.line_rules.specs.Sending.{on, half, parityBits}
 use Rattle.line_rules.specs.Receiving.{assembling}
-use Rattle.link_rules.specs.declared.SenderHalf.{SenderHalf}
-use Rattle.link_rules.specs.declared.ReceiverHalf.{ReceiverHalf}
 use Rattle.link_rules.specs.Parts.{withFrame}
 use Rattle.link_rules.specs.Transmitting.{frameAt}
 use Rattle.way_rules.specs.declared.Ends.{Ends}
 use Rattle.way_rules.specs.declared.Way.{Way}
 use Rattle.way_rules.specs.declared.Moved.{Moved}
 use Rattle.way_rules.specs.Along.{wayTicks}
-use Rattle.way_rules.specs.Calm.{least, placesLeft}
+use Rattle.way_rules.specs.Calm.{least}
 
 -- the number of the look at the stop: n + p + 1
 abbrev pub lastLook : Format → ℕ

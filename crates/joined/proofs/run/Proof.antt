@@ -1,7 +1,7 @@
 -- `joined::run` meets its contract: refused above 65535, else so many ticks.
 -- Assumes nothing.
 use native.Mathlib.Omega.{arith}
-use mathlib.Core.Path.{_≡_, ap, sym, _∙_}
+use mathlib.Core.Path.{ap, sym, _∙_}
 use borrow.Author.Needs.{needs}
 use Rattle.joined_rules.specs.declared.Pair.{Pair}
 use Rattle.joined_rules.proofs.RunsRefused.{run-refused, run-done}

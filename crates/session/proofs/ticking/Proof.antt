@@ -1,12 +1,11 @@
 -- `session::ticking` meets its contract: a run of 65535 at most is done.
 -- Assumes nothing.
 use native.Mathlib.Omega.{arith}
-use mathlib.Core.Path.{_≡_, ap, _∙_}
+use mathlib.Core.Path.{ap, _∙_}
 use borrow.Author.Needs.{needs}
 use Rattle.joined_rules.specs.declared.Ran.{Ran}
 use Rattle.joined_rules.proofs.RunsRefused.{run-done}
 use Rattle.session_rules.specs.declared.Said.the-variants.{Nothing}
-use Rattle.session_rules.specs.declared.Reply.{Reply}
 use Rattle.session.proofs.ticking.Statement.{statement}
 use Rattle.session.proofs.ticking.Tie as tie
 

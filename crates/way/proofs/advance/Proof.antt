@@ -8,7 +8,7 @@ use Rattle.line_rules.specs.Sending.{on}
 use Rattle.line_rules.proofs.Table.{both}
 use borrow.Author.Tests.{eqb-true}
 use Rattle.way_rules.specs.Along.{wayTicks}
-use Rattle.way_rules.specs.Leap.{bothBusy, flyAt, leapTicks}
+use Rattle.way_rules.specs.Leap.{flyAt, leapTicks}
 use Rattle.way_rules.proofs.Branches.{least-is}
 use Rattle.way_rules.proofs.Flown.{leaps, leap-fits, in-step-has}
 use borrow.Author.Needs.{needs}

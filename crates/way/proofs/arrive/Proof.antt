@@ -1,6 +1,5 @@
 -- `way::arrive` meets its contract. The character, its flags, and the search or the wait that follows.
 -- Assumes nothing.
-use mathlib.Core.Path.{sym, _∙_}
 use Rattle.way_rules.proofs.Ticks.{arrives-is}
 use borrow.Author.Needs.{needs}
 use Rattle.way.proofs.arrive.Statement.{statement}

@@ -1,6 +1,6 @@
 -- `way::begun` meets its contract. The frame goes on at its next place, or is over.
 -- Assumes nothing.
-use mathlib.Core.Path.{sym, _∙_}
+use mathlib.Core.Path.{_∙_}
 use Rattle.way_rules.proofs.Ticks.{begun-on, begun-off}
 use borrow.Author.Needs.{needs}
 use Rattle.way.proofs.begun.Statement.{statement}

@@ -1,7 +1,7 @@
 -- `way::hear` meets its contract. By the receiver's phase.
 -- Assumes nothing.
 use native.Mathlib.Omega.{arith}
-use mathlib.Core.Path.{sym, _∙_}
+use mathlib.Core.Path.{_∙_}
 use Rattle.way_rules.proofs.Ticks.{hear-count, hear-look, hear-mark, hear-start, hear-space, hear-off}
 use borrow.Author.Needs.{needs}
 use Rattle.way.proofs.hear.Statement.{statement}

@@ -1,7 +1,7 @@
 -- `way::look` meets its contract. Each way out is the look with that number.
 -- Assumes nothing.
 use native.Mathlib.Omega.{arith}
-use mathlib.Core.Path.{sym, _∙_}
+use mathlib.Core.Path.{_∙_}
 use Rattle.way_rules.proofs.Ticks.{look-false, look-start, look-data, look-parity, look-stop}
 use borrow.Author.Needs.{needs}
 use Rattle.way.proofs.look.Statement.{statement}

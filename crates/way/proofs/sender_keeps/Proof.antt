@@ -1,12 +1,12 @@
 -- `way::sender_keeps` meets its contract. By what the sender does: its level, and for how long that stays.
 -- Assumes nothing.
 use Prim.Native.Nat.{ℕ}
-use mathlib.Core.Path.{_≡_, refl, ap, sym, _∙_}
-use mathlib.Core.Bool.{Bool, true, false, not, cond, _&&_}
+use mathlib.Core.Path.{refl, ap, sym, _∙_}
+use mathlib.Core.Bool.{true, false, not, cond, _&&_}
 use lib.Dec.{eqb}
 use borrow.Author.Tests.{lt-ltb, le-ltb}
 use borrow.Author.Needs.{needs}
-use Rattle.line_rules.specs.Sending.{bit, on}
+use Rattle.line_rules.specs.Sending.{on}
 use Rattle.way_rules.proofs.Senders.{frame-holds, break-holds, guard-holds, rest-holds}
 use Rattle.way_rules.proofs.Ticks.{frame-levels, break-level, guard-level, rest-level, keeps-as}
 use Rattle.way.proofs.sender_keeps.Statement.{statement}

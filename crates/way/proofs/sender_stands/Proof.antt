@@ -1,6 +1,5 @@
 -- `way::sender_stands` meets its contract. By whether a break is sent.
 -- Assumes nothing.
-use borrow.Author.Needs.{needs}
 use Rattle.way.proofs.sender_stands.Statement.{statement}
 use Rattle.way.proofs.sender_stands.Tie as tie
 

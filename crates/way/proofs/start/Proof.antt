@@ -1,6 +1,5 @@
 -- `way::start` meets its contract. The look at the start, at once or later.
 -- Assumes nothing.
-use mathlib.Core.Path.{sym, _∙_}
 use Rattle.way_rules.proofs.Ticks.{start-now, start-later}
 use borrow.Author.Needs.{needs}
 use Rattle.way.proofs.start.Statement.{statement}
