@@ -32,9 +32,6 @@ withSender d s f = withParts d (d .registers) (d .pins) s (d .receiver) f
 abbrev pub withReceiver : Device → ReceiverHalf → Flags → Device
 withReceiver d h f = withParts d (d .registers) (d .pins) (d .sender) h f
 
-abbrev pub withHalves : Device → SenderHalf → ReceiverHalf → Device
-withHalves d s h = withParts d (d .registers) (d .pins) s h (d .flags)
-
 -- == registers ==
 
 abbrev pub withMode1 : Registers → ℕ → Registers

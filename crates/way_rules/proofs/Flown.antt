@@ -277,7 +277,7 @@ looks-fit F wait room x q pos h e l =
 -- a leap in the frame's places and in a room
 pub record Fits (w : Way) (room q k : ℕ) : Type 0 where
   pub ahead : Ahead w (placesLeft (w .sender .frame)) q
-  pub within : k ≤ room
+  pub in-room : k ≤ room
   pub placed : w .sender .frame .place + k ≤ 65535
   pub looked : w .receiver .state .look + q ≤ 65535
 
@@ -290,7 +290,7 @@ leap-fits w p room r q k e n z a s =
     let left : leapTicks w q ≤ placesLeft (w .sender .frame) = omega (arith, a .ticks, b .first, e) in
     record {
       ahead = record { some = a .some; looks = a .looks; few = a .few; ticks = left };
-      within = omega (arith, a .ticks, b .second, s);
+      in-room = omega (arith, a .ticks, b .second, s);
       placed = omega (arith, d .second, left, some, s);
       looked = omega (arith, a .few);
     }

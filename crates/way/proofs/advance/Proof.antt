@@ -32,7 +32,7 @@ returns c =
     let fit = leap-fits (c .before .before .before .before .before .before .before .before .before .before .before .args .w) _ (c .before .before .before .before .before .before .before .before .before .before .before .args .room) _ (c .before .before .before .looks-ahead .result) (c .before .leap-ticks .result) (c .before .before .before .before .before .places-left .ensures) (c .before .before .before .before .least .ensures) (c .before .before .if3 .taken) (c .before .before .before .looks-ahead .ensures (c .before .before .if3 .taken)) (c .before .leap-ticks .ensures) in
     let t = both (c .before .before .before .before .before .before .before .before .before .before .before .args .e .live) _ (c .before .before .before .before .before .before .before .before .if1 .taken) in
     record {
-      within = fit .within;
+      within = fit .in-room;
       way =
           c .leapt .ensures
           ∙ ap (λ (j : ℕ). flyAt (c .before .before .before .before .before .before .before .before .before .before .before .args .w) (c .before .before .before .before .before .before .before .before .before .before .before .args .w .sender .frame .place + j) (c .before .before .before .before .before .before .before .before .before .before .before .args .w .receiver .state .look + c .before .before .before .looks-ahead .result) 0) (c .before .leap-ticks .ensures)
