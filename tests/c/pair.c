@@ -125,6 +125,18 @@ static void refuses_too_many(const ins2651_pair *given) {
     }
 }
 
+/* A run that is too long is refused of a pair that no tick changes, too: just reset, idle and in break. */
+static void refuses_at_rest(void) {
+    ins2651_pair pair = INS2651_PAIR_RESET;
+    refuses_too_many(&pair);
+    pair = talking(SIXTEEN, SIXTEEN);
+    ins2651_joined_run(&pair, INS2651_RUN_LIMIT);
+    refuses_too_many(&pair);
+    ins2651_write(&pair.a, INS2651_COMMAND, INS2651_COMMAND_TRANSMIT | INS2651_COMMAND_BREAK);
+    ins2651_joined_run(&pair, INS2651_RUN_LIMIT);
+    refuses_too_many(&pair);
+}
+
 /* == devices out of range == */
 
 /* The pair with one byte of a device, or of both, out of range: the mode pointer. */
@@ -188,6 +200,7 @@ int main(void) {
     runs_are_joined_ticks();
     characters_come_in_a_run();
     the_limit();
+    refuses_at_rest();
     out_of_range();
     neighbours();
     return failures != 0;

@@ -26,10 +26,11 @@ fn the_plain_pair_is_the_models() {
         assert_eq!(fast.joined_run(65_536), 16);
         assert_eq!(fast.joined_run(0), 0);
         assert_eq!(fast, Pair { a, b });
-        for n in [0, 1, draws.below(30), draws.below(1500)] {
-            assert_eq!(fast.joined_tick(), tick(&mut slow));
+        // the first run meets the devices as they were drawn, out of range too
+        for n in [1 + draws.below(3), 0, draws.below(30), draws.below(1500)] {
             assert_eq!(fast.joined_run(n), 0);
             (0..n).for_each(|_| _ = tick(&mut slow));
+            assert_eq!(fast.joined_tick(), tick(&mut slow));
             let [a, b] = slow.each_ref().map(|lent| Device::of_bytes(lent.bytes()));
             assert_eq!(fast, Pair { a, b });
         }

@@ -65,6 +65,7 @@ impl Reach {
             counts.name(RANGES.map(|range| on_range(called, range)));
         }
         counts.name(CALLED[1..].iter().map(|called| would_go_on(called)));
+        counts.name(CALLED[1..].iter().map(|called| stands(called)));
         counts.name((0..4).map(answer));
         counts.name_places(UNITS.len(), OF_CHIPS.map(by_end));
         counts.name_places(UNITS.len(), [by_end("refused")]);
@@ -137,8 +138,10 @@ impl Reach {
         let in_range = range(pair) == RANGES[0];
         let mut after = pair.clone();
         after.tick();
-        let goes_on = in_range && after != *pair;
-        self.counts.count_if(goes_on, &would_go_on(called));
+        self.counts
+            .count_if(in_range && after != *pair, &would_go_on(called));
+        self.counts
+            .count_if(in_range && after == *pair, &stands(called));
         if (1..=RUN_LIMIT).contains(&ticks) {
             ways::watch(&mut self.counts, pair, ticks);
         }
@@ -166,6 +169,10 @@ fn on_range(called: &str, range: &str) -> String {
 
 fn would_go_on(called: &str) -> String {
     format!("{called} of a pair in range that a tick changes, shown")
+}
+
+fn stands(called: &str) -> String {
+    format!("{called} of a pair in range that no tick changes, shown")
 }
 
 fn answer(levels: u8) -> String {

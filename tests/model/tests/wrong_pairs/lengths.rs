@@ -11,6 +11,7 @@ pub const ALL: &[Wrong] = &[
     ("65535 is refused", limit_refused),
     ("65536 is taken", above_limit_taken),
     ("a length is cut to 16 bits", cut),
+    ("a pair that stands takes any length", standing_takes_any),
     ("a refused run does a tick", refused_ticks),
     ("a run of 0 does a tick", none_ticks),
     ("a run of 0 is refused", none_refused),
@@ -67,6 +68,15 @@ fn above_limit_taken(pair: &mut Pair, call: &Call) -> Answer {
 fn cut(pair: &mut Pair, call: &Call) -> Answer {
     match *call {
         Call::Run(ticks) => pair.call(&Call::Run(ticks % 65_536)),
+        _ => pair.call(call),
+    }
+}
+
+fn standing_takes_any(pair: &mut Pair, call: &Call) -> Answer {
+    let mut after = pair.clone();
+    after.tick();
+    match *call {
+        Call::Run(ticks) if ticks > RUN_LIMIT && after == *pair => refused(0),
         _ => pair.call(call),
     }
 }
