@@ -1,5 +1,4 @@
 pub mod Runs
-pub mod RunsRefused
 pub mod InRounds
 pub mod SetUps
 pub mod Ways
@@ -8,4 +7,5 @@ pub mod Order
 pub mod Sequence
 pub mod Concrete
 pub mod TwoWays
+pub mod RunsRefused
 pub mod Standing

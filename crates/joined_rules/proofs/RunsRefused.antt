@@ -10,7 +10,9 @@ use borrow.Author.Tests.{lt-ltb, le-ltb, ltb-true, ltb-false}
 use Rattle.joined_rules.specs.declared.Pair.{Pair}
 use Rattle.joined_rules.specs.declared.Ran.{Ran}
 use Rattle.joined_rules.specs.Joining.{run, ticks, settledPair, joinedTicks}
+use Rattle.joined_rules.specs.TwoWays.{alongBoth}
 use Rattle.joined_rules.proofs.Runs.{settled-both, settled-pair, settled-ticks}
+use Rattle.joined_rules.proofs.TwoWays.{two-ways}
 
 pub run-refused : (p : Pair) (n : ℕ) → 65535 < n → run p n ≡ record { refusal = 16; pair = p }
 unfolding run
@@ -32,7 +34,11 @@ refused-above p n h = go (ltb 65535 n) refl
 pub run-of-none : (p : Pair) → run p 0 ≡ record { refusal = 0; pair = p }
 run-of-none p = run-done p 0 (omega arith)
 
--- .. and of some: each device as one call of the chip would take it, by itself
+-- .. and of some: a run of each way of the pair as it is taken
+pub run-is-two-ways : (p : Pair) (n : ℕ) → 0 < n → n ≤ 65535 → run p n ≡ record { refusal = 0; pair = alongBoth n (settledPair p) }
+run-is-two-ways p n z h = run-done p n h ∙ ap (λ (q : Pair). record { refusal = 0; pair = q }) (sym (settled-ticks n p z) ∙ two-ways n (settledPair p))
+
+-- .. each device as one call of the chip would take it, by itself
 pub run-settles : (p : Pair) (n : ℕ) → 0 < n → n ≤ 65535 → run p n ≡ run (settledPair p) n
 run-settles p n z h =
     run-done p n h

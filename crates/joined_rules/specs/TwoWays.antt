@@ -1,4 +1,4 @@
--- The two ways of a joined line: what a device's sender sends the other's receiver takes. Registers and pins stay in a run, so that the ways are
+-- The two ways of a joined line, request P9: what a device's sender sends the other's receiver takes. Registers and pins stay in a run, so that the ways are
 -- independent: a run of the pair is a run of each (proofs/TwoWays.antt, `two-ways`).
 -- Assumes nothing.
 use Prim.Native.Nat.{ℕ}

@@ -11,7 +11,7 @@ ghost use Rattle.link_rules.specs.Transmitting.{transmit, frameTick, beginTick}
 ghost use Rattle.way_rules.specs.Parts.{withoutFrame, withMark, resting, assembled, tuned};
 ghost use Rattle.way_rules.specs.Along.{sent, received, sentBy, heardBy, heardAs, wayTick, wayTicks};
 ghost use Rattle.way_rules.specs.Calm;
-ghost use Rattle.way_rules.specs.Leap.{lastLook, soFar, sameBits, bothBusy, inStep, flyAt, leapTicks, Ahead, Leaps, Moves};
+ghost use Rattle.way_rules.specs.Leap.{lastLook, soFar, sameBits, bothBusy, inStep, flyAt, leapTicks, looksAhead, leapLooks, doneAtOnce, Narrow, Leaps};
 ghost use Rattle.way_rules.specs.Calm.{placesLeft, senderCalm, bitLeft, senderKeeps, senderSkipped, heardCalm, wayCalm, waySkipped, senderStands, receiverStands};
 use line_rules::Format;
 use link_rules::Frame;
@@ -285,7 +285,7 @@ fn least(m: u16, n: u16) -> u16
     if m < n { m } else { n }
 }
 
-// Longer than any run.
+// As long as the longest run.
 fn endless(t: bool) -> u16
     ensures { λ r. ⌜ r ≡ Calm.endless t ⌝ }
 {
@@ -514,7 +514,7 @@ fn low(c: u8, k: u16) -> u8
     c % (1 << k)
 }
 
-// The value of a character before look number m.
+// The value of a character before look number m. (That it is a byte is told to the proofs of its callers.)
 fn so_far(f: Format, c: u8, m: u16) -> u8
     ensures { λ r. ⌜ (r ≡ soFar f c m) × (c < 256) ⌝ }
 {
@@ -564,9 +564,9 @@ fn in_step(w: Way) -> bool
         & (w.receiver.state.value == so_far(g, w.sender.frame.character, w.receiver.state.look))
 }
 
-// How many looks of a receiver in step can be passed in so many ticks.
+// How many looks are passed in so many ticks: those that they reach, the stop's at most.
 fn looks_ahead(w: Way, room: u16) -> u16
-    ensures { λ q. ⌜ (0 < q → Ahead w room q) ⌝ }
+    ensures { λ q. ⌜ (q ≡ looksAhead w room) × (0 < q → w .receiver .state .look + q ≤ 257) ⌝ }
 {
     let g = w.receiver.format;
     let look = w.receiver.state.look;
@@ -583,6 +583,21 @@ fn looks_ahead(w: Way, room: u16) -> u16
         return 0;
     }
     least((room - wait) / ticks, last - look)
+}
+
+// .. of a receiver in step, before the frame's last place.
+fn leap_looks(e: Ends, w: Way, room: u16) -> u16
+    ensures { λ q. ⌜ (q ≡ leapLooks e w room) × (0 < q → Narrow w q) ⌝ }
+{
+    let followed = e.live & both_busy(w);
+    if followed {
+        let step = in_step(w);
+        if step {
+            return looks_ahead(w, least(places_left(w.sender.frame), room));
+        }
+        return 0;
+    }
+    0
 }
 
 // The ticks to the look that is q after the next.
@@ -608,23 +623,17 @@ fn leapt(mut w: Way, q: u16, k: u16) -> Way
     w
 }
 
-// Many ticks at once, of so many at most: whole bits of a frame that is followed, or ticks that only count.
+// Many ticks at once, of so many at most: to the last look of a frame that is followed, or those that only count.
 fn advance(e: Ends, w: Way, room: u16) -> Moved
-    ensures { λ r. ⌜ Moves e w room r ⌝ }
+    ensures { λ r. ⌜ r ≡ doneAtOnce e w room ⌝ }
 {
-    let followed = e.live & both_busy(w);
-    if followed {
-        let step = in_step(w);
-        if step {
-            let q = looks_ahead(w, least(places_left(w.sender.frame), room));
-            if 0 < q {
-                let k = leap_ticks(w, q);
-                return Moved {
-                    way: leapt(w, q, k),
-                    ticks: k,
-                };
-            }
-        }
+    let q = leap_looks(e, w, room);
+    if 0 < q {
+        let k = leap_ticks(w, q);
+        return Moved {
+            way: leapt(w, q, k),
+            ticks: k,
+        };
     }
     let k = least(calm(e, w), room);
     Moved {
@@ -633,7 +642,7 @@ fn advance(e: Ends, w: Way, room: u16) -> Moved
     }
 }
 
-// n ticks: those that pass at once, then the one that does more.
+// n ticks: those that pass at once, then one by itself, and so on.
 pub fn along(w: Way, e: Ends, n: u16) -> Way
     ensures { λ r. ⌜ r ≡ wayTicks e n w ⌝ }
 {

@@ -106,17 +106,17 @@ module _ (e : Ends) (s : SenderHalf) (ok : senderInRange s ≡ true) where
 -- == the receiver ==
 
 -- a look leaves no character under way, or one whose next look is another
-abbrev Moves : ℕ → Receiver → Type 0
-Moves m s = s .phase ≡ 2 → s .look ≡ m → ⊥
+abbrev OtherLook : ℕ → Receiver → Type 0
+OtherLook m s = s .phase ≡ 2 → s .look ≡ m → ⊥
 
-look-moves : (f : Format) (m v w : ℕ) (x : Bool) → Moves m (lookAt f m v w x .next)
+look-moves : (f : Format) (m v w : ℕ) (x : Bool) → OtherLook m (lookAt f m v w x .next)
 unfolding part
 look-moves f zero v w true = λ p l. omega arith
 look-moves f zero v w false = λ p l. omega arith
 look-moves f (suc i) v w x =
-    either (λ (o : Sampled). Moves (suc i) (o .next)) (ltb i (f .length)) (λ p l. omega arith)
-    (either (λ (o : Sampled). Moves (suc i) (o .next)) (ltb i (f .length + parityBits f)) (λ p l. omega arith)
-    (either (Moves (suc i)) x (λ p l. omega arith) (λ p l. omega arith)))
+    either (λ (o : Sampled). OtherLook (suc i) (o .next)) (ltb i (f .length)) (λ p l. omega arith)
+    (either (λ (o : Sampled). OtherLook (suc i) (o .next)) (ltb i (f .length + parityBits f)) (λ p l. omega arith)
+    (either (OtherLook (suc i)) x (λ p l. omega arith) (λ p l. omega arith)))
 
 -- a tick that finds the countdown at 0 is a look
 under-moves : (f : Format) (c m v w : ℕ) (x : Bool) → under f c m v w x .next .phase ≡ 2 → under f c m v w x .next .look ≡ m → 1 ≤ c

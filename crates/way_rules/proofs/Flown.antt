@@ -1,7 +1,7 @@
 -- A receiver in step with a frame stays so from look to look: whole bits pass at once.
 -- Assumes nothing.
 use Prim.Native.Nat.{ℕ, zero, suc, _+_, _*_, _-_, _^_, _/_, _%_, _≤_, _<_}
-use native.Mathlib.Nat.{add-zero, mul-zero, pow-suc, mod-le, mod-eq-of-lt, mul-le-mul-left, mul-comm, le-div-iff-mul-le, mod-one}
+use native.Mathlib.Nat.{add-zero, mul-zero, pow-suc, mod-le, mod-eq-of-lt, mod-one}
 use native.Mathlib.Omega.{arith}
 use mathlib.Core.Path.{_≡_, refl, ap, ap₂, sym, _∙_}
 use mathlib.Core.Bool.{Bool, true, false, _&&_}
@@ -31,7 +31,7 @@ use Rattle.way_rules.specs.declared.Way.{Way}
 use Rattle.way_rules.specs.Along.{received, sentBy, heardBy, wayTick, wayTicks}
 use Rattle.way_rules.specs.Calm.{least, placesLeft, senderCalm, senderKeeps, heardCalm, wayCalm, waySkipped}
 use Rattle.way_rules.specs.Leap.{lastLook, soFar, sameBits, bothBusy, inStep, flyAt, leapTicks, Ahead}
-use Rattle.way_rules.proofs.Branches.{least-both, least-is, least-above, least-first, least-second}
+use Rattle.way_rules.proofs.Branches.{least-both, least-above, least-first, least-second}
 use Rattle.way_rules.proofs.Senders.{at, within, moves, frame-is, frame-stays, skips-frame, frame-calm}
 use Rattle.way_rules.proofs.Receivers.{looks-calm}
 use Rattle.way_rules.proofs.Ways.{skips, ticks-add}
@@ -235,70 +235,3 @@ leaps e w q live byte busy step a =
 
     placed : w .sender .frame .place + w .receiver .state .countdown ≡ half (w .receiver .format) + w .receiver .format .factor * w .receiver .state .look
     placed = eqb-true _ _ (step-parts w step .1)
-
--- == the code's ways ==
-
-pub leapt-is : (w : Way) (i m v : ℕ) → w .receiver .state .phase ≡ 2 → w .receiver .state .wrong ≡ 0 → v ≡ soFar (w .receiver .format) (w .sender .frame .character) m
-    → record {
-      sender = at (w .sender) i;
-      receiver = record {
-        state = record { phase = w .receiver .state .phase; countdown = 0; value = v; wrong = w .receiver .state .wrong; look = m };
-        format = w .receiver .format;
-        holding = w .receiver .holding;
-        unread = w .receiver .unread;
-      };
-      empty = w .empty;
-      faults = w .faults;
-    }
-    ≡ flyAt w i m 0
-leapt-is w i m v p z e =
-    let W : ℕ → ℕ → ℕ → Way = λ n v z.
-    record {
-      sender = at (w .sender) i;
-      receiver = record {
-        state = record { phase = n; countdown = 0; value = v; wrong = z; look = m };
-        format = w .receiver .format;
-        holding = w .receiver .holding;
-        unread = w .receiver .unread;
-      };
-      empty = w .empty;
-      faults = w .faults;
-    } in
-    ap (λ (n : ℕ). W n v (w .receiver .state .wrong)) p
-    ∙ ap (λ (x : ℕ). W 2 x (w .receiver .state .wrong)) e
-    ∙ ap (W 2 (soFar (w .receiver .format) (w .sender .frame .character) m)) z
-
--- q looks ahead in x ticks or fewer
-pub looks-fit : (F wait room x q : ℕ) → 0 < F → wait ≤ room → x ≡ (room - wait) / F → q ≤ x → wait + F * q ≤ room
-looks-fit F wait room x q pos h e l =
-    let d : q * F ≤ room - wait = le-div-iff-mul-le pos .0 (omega arith) in
-    omega (arith, mul-comm F q)
-
--- a leap in the frame's places and in a room
-pub record Fits (w : Way) (room q k : ℕ) : Type 0 where
-  pub ahead : Ahead w (placesLeft (w .sender .frame)) q
-  pub in-room : k ≤ room
-  pub placed : w .sender .frame .place + k ≤ 65535
-  pub looked : w .receiver .state .look + q ≤ 65535
-
-pub leap-fits : (w : Way) (p room r q k : ℕ) → p ≡ placesLeft (w .sender .frame) → r ≡ least p room → 0 < q → Ahead w r q → k ≡ leapTicks w q → Fits w room q k
-leap-fits w p room r q k e n z a s =
-    let b = least-is p room r n in
-    let d = least-both (frameLength (w .sender .frame .format)) 65536 in
-    let one : w .receiver .format .factor * 1 ≤ w .receiver .format .factor * q = mul-le-mul-left (w .receiver .format .factor) z in
-    let some : 1 ≤ leapTicks w q = omega (arith, one, a .some) in
-    let left : leapTicks w q ≤ placesLeft (w .sender .frame) = omega (arith, a .ticks, b .first, e) in
-    record {
-      ahead = record { some = a .some; looks = a .looks; few = a .few; ticks = left };
-      in-room = omega (arith, a .ticks, b .second, s);
-      placed = omega (arith, d .second, left, some, s);
-      looked = omega (arith, a .few);
-    }
-
--- what a receiver in step has besides
-pub in-step-has : (w : Way) → inStep w ≡ true → w .receiver .state .wrong ≡ 0
-unfolding inStep
-in-step-has w h =
-    let placed : Bool = eqb (w .sender .frame .place + w .receiver .state .countdown) (half (w .receiver .format) + w .receiver .format .factor * w .receiver .state .look) in
-    let x = both (sameBits (w .sender .frame .format) (w .receiver .format) && placed && eqb (w .receiver .state .wrong) 0) _ h in
-    eqb-true (w .receiver .state .wrong) 0 (both (sameBits (w .sender .frame .format) (w .receiver .format) && placed) _ (x .0) .1)

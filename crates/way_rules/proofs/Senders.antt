@@ -4,7 +4,7 @@ use Prim.Native.Nat.{ℕ, suc, _+_, _*_, _-_, _/_, _%_, _≤_, _<_}
 use native.Mathlib.Nat.{mod-eq-of-lt, mul-comm, div-add-mod', mul-add-mod-self-left, div-eq-of-lt-le}
 use native.Mathlib.Omega.{arith}
 use mathlib.Core.Path.{_≡_, refl, ap, sym, _∙_}
-use mathlib.Core.Bool.{Bool, true, false, cond, not, _&&_, true≢false}
+use mathlib.Core.Bool.{Bool, true, false, cond, _&&_}
 use lib.Dec.{ltb, eqb}
 use borrow.Author.Tests.{lt-ltb, ltb-true, ltb-false, leb-true, eqb-true, ne-eqb}
 use Rattle.line_rules.specs.declared.Format.{Format}
@@ -26,9 +26,6 @@ use Rattle.way_rules.proofs.Branches.{Least, least-both}
 pub endless-so : (t : Bool) → 1 ≤ endless t → t ≡ true
 endless-so true h = refl
 endless-so false h = absurd (omega arith)
-
-never : {P : Type 0} {b : Bool} → b ≡ false → b ≡ true → P
-never e t = absurd (true≢false (sym t ∙ e))
 
 -- == within a frame ==
 

@@ -1,5 +1,6 @@
 -- Ticks of a way that only count: a frame holds each level for F ticks, a receiver looks once in F, a guard runs down and a break holds its level,
--- so that most ticks move a place, a countdown or a guard by one and nothing else; many of those can be done at once.
+-- so that most ticks move a place, a countdown or a guard by one and nothing else; many of those can be done at once. Document 01, "Sending, by transmit
+-- ticks" and "Receiving, by receive ticks"; request P9.
 -- Assumes nothing.
 use Prim.Native.Nat.{ℕ, suc, _+_, _-_, _%_, _≤_}
 use mathlib.Core.Path.{_≡_}
@@ -21,7 +22,7 @@ use Rattle.way_rules.specs.Along.{wayTick}
 abbrev pub least : ℕ → ℕ → ℕ
 least m n = cond (ltb m n) m n
 
--- a half that stays as it is does so for longer than any run
+-- a half that stays as it is does so for the longest run
 abbrev pub endless : Bool → ℕ
 endless t = cond t 65535 0
 
@@ -89,7 +90,7 @@ receiverSkipped k r = record { state = lowered (r .state) k; format = r .format;
 
 -- == the way ==
 
--- its receiver has a look at the next tick, which is not calm
+-- its receiver has a look at the next tick, or drops its character where it is off: not calm
 abbrev pub looks : Way → Bool
 looks w = eqb (w .receiver .state .phase) 2 && eqb (w .receiver .state .countdown) 0
 
@@ -120,7 +121,7 @@ wayStands e w = senderStands (w .sender) (e .ready) (e .broken) (e .send .factor
 
 -- == what is said of it ==
 
--- a tick is calm exactly where it only counts: none that counts is left to be done by itself, and none that does more is skipped
+-- a tick is calm exactly where it only counts
 pub record Exactly (e : Ends) (w : Way) : Type 0 where
   pub counts : 1 ≤ wayCalm e w → wayTick e w ≡ waySkipped e 1 w
   pub calm : wayTick e w ≡ waySkipped e 1 w → 1 ≤ wayCalm e w

@@ -1,10 +1,10 @@
 -- A receiver in step with a frame: the place of the frame and the character so far say where it is, so that whole bits can be passed at once.
--- Its looks take the bits of the frame's own character, and each is F ticks after the one before.
+-- Its looks take the bits of the frame's own character, and each is F ticks after the one before: document 01, "Receiving, by receive ticks"; request P9.
 -- Assumes nothing.
-use Prim.Native.Nat.{ℕ, suc, _+_, _*_, _-_, _^_, _%_, _≤_, _<_}
+use Prim.Native.Nat.{ℕ, suc, _+_, _*_, _-_, _^_, _/_, _%_, _≤_, _<_}
 use mathlib.Core.Path.{_≡_}
-use mathlib.Core.Bool.{Bool, _&&_}
-use lib.Dec.{eqb}
+use mathlib.Core.Bool.{Bool, cond, _&&_}
+use lib.Dec.{leb, eqb}
 use Rattle.line_rules.specs.declared.Format.{Format}
 use Rattle.line_rules.specs.Sending.{on, half, parityBits}
 use Rattle.line_rules.specs.Receiving.{assembling}
@@ -14,7 +14,7 @@ use Rattle.way_rules.specs.declared.Ends.{Ends}
 use Rattle.way_rules.specs.declared.Way.{Way}
 use Rattle.way_rules.specs.declared.Moved.{Moved}
 use Rattle.way_rules.specs.Along.{wayTicks}
-use Rattle.way_rules.specs.Calm.{least}
+use Rattle.way_rules.specs.Calm.{least, placesLeft, wayCalm}
 
 -- the number of the look at the stop: n + p + 1
 abbrev pub lastLook : Format → ℕ
@@ -59,12 +59,37 @@ flyAt w i m c =
 abbrev pub leapTicks : Way → ℕ → ℕ
 leapTicks w q = w .receiver .state .countdown + w .receiver .format .factor * q
 
--- a look q after the next, which is one of the character's, in the frame's places and in a room of so many ticks
+-- a look q after the next: one of the character's, in so many ticks
 pub record Ahead (w : Way) (room q : ℕ) : Type 0 where
   pub some : 0 < w .receiver .format .factor
   pub looks : w .receiver .state .look + q ≤ lastLook (w .receiver .format)
-  pub few : w .receiver .state .look + q ≤ 257
   pub ticks : leapTicks w q ≤ room
+
+-- how many looks are passed in so many ticks: those that they reach, the stop's at most
+unfoldable pub looksAhead : Way → ℕ → ℕ
+looksAhead w room =
+    cond (on (w .receiver .format .factor) && leb (w .receiver .state .countdown) room)
+    (least ((room - w .receiver .state .countdown) / w .receiver .format .factor) (lastLook (w .receiver .format) - w .receiver .state .look))
+    0
+
+-- .. of a receiver in step, before the frame's last place
+unfoldable pub leapLooks : Ends → Way → ℕ → ℕ
+leapLooks e w room = cond (e .live && bothBusy w && inStep w) (looksAhead w (least (placesLeft (w .sender .frame)) room)) 0
+
+-- the ticks that are done at once, of so many at most: to the last look that can be passed, or else those that only count
+unfoldable pub atOnce : Ends → Way → ℕ → ℕ
+atOnce e w room = cond (on (leapLooks e w room)) (leapTicks w (leapLooks e w room)) (least (wayCalm e w) room)
+
+-- .. and the way after them
+abbrev pub doneAtOnce : Ends → Way → ℕ → Moved
+doneAtOnce e w room = record { way = wayTicks e (atOnce e w room) w; ticks = atOnce e w room }
+
+-- == what the code's numbers have room for ==
+
+-- a frame's character is a byte, and a look's number is small
+pub record Narrow (w : Way) (q : ℕ) : Type 0 where
+  pub byte : w .sender .frame .character < 256
+  pub look : w .receiver .state .look + q ≤ 257
 
 -- the place and the look that a leap comes to fit, and the receiver has a character under way with no wrong parity
 pub record Leaps (w : Way) (q k : ℕ) : Type 0 where
@@ -72,8 +97,3 @@ pub record Leaps (w : Way) (q k : ℕ) : Type 0 where
   pub looked : w .receiver .state .look + q ≤ 65535
   pub phase : w .receiver .state .phase ≡ 2
   pub wrong : w .receiver .state .wrong ≡ 0
-
--- what passes at once is what as many ticks do
-pub record Moves (e : Ends) (w : Way) (room : ℕ) (r : Moved) : Type 0 where
-  pub within : r .ticks ≤ room
-  pub way : r .way ≡ wayTicks e (r .ticks) w

@@ -5,6 +5,7 @@ use native.Mathlib.Omega.{arith}
 use mathlib.Core.Path.{_≡_, refl, ap, sym, _∙_}
 use Rattle.way_rules.specs.Along.{wayTick, wayTicks}
 use Rattle.way_rules.proofs.Ways.{turn-less, none-left}
+use Rattle.way_rules.proofs.AtOnce.{moves-by}
 use borrow.Author.Needs.{needs}
 use Rattle.way.proofs.along.Statement.{statement}
 use Rattle.way.proofs.along.Tie as tie
@@ -16,19 +17,27 @@ abbrev μ-loop : tie.MeasureT-loop
 μ-loop e n way₀ left₀ way left = left
 
 sub-left : tie.Need-sub-left Inv-loop μ-loop
-sub-left c = omega (arith, c .before .before .before .advance .ensures .within, c .before .before .before .before .loop-test .taken)
+sub-left c =
+    let m = moves-by _ _ _ (c .before .before .before .advance .result) (c .before .before .before .advance .ensures) in
+    omega (arith, m .in-room, c .before .before .before .before .loop-test .taken)
 
 sub-left-2 : tie.Need-sub-left-2 Inv-loop μ-loop
-sub-left-2 c = omega (arith, c .before .before .before .advance .ensures .within, c .before .before .before .before .loop-test .taken)
+sub-left-2 c =
+    let m = moves-by _ _ _ (c .before .before .before .advance .result) (c .before .before .before .advance .ensures) in
+    omega (arith, m .in-room, c .before .before .before .before .loop-test .taken)
 
 loop-less : tie.Need-loop-less Inv-loop μ-loop
 loop-less c = omega (arith, c .before .before .before .before .loop-test .taken)
 
 loop-again : tie.Need-loop-again Inv-loop μ-loop
 loop-again c =
-    ap (wayTicks (c .before .before .before .before .before .before .args .e) (c .before .before .before .before .before .loop .left - c .before .before .before .advance .result .ticks - 1)) (c .before .tick .ensures ∙ ap (wayTick (c .before .before .before .before .before .before .args .e)) (c .before .before .before .advance .ensures .way))
-    ∙ sym (turn-less (c .before .before .before .before .before .before .args .e) (c .before .before .before .advance .result .ticks) (c .before .before .before .before .before .loop .left) (c .before .before .before .before .before .loop .way) (omega (arith, c .before .before .before .advance .ensures .within, c .before .before .before .before .loop-test .taken)))
-    ∙ c .before .before .before .before .before .loop .inv
+    let e = c .before .before .before .before .before .before .args .e in
+    let l = c .before .before .before .before .before .loop in
+    let r = c .before .before .before .advance .result in
+    let m = moves-by e (l .way) _ r (c .before .before .before .advance .ensures) in
+    ap (wayTicks e (l .left - r .ticks - 1)) (c .before .tick .ensures ∙ ap (wayTick e) (m .way))
+    ∙ sym (turn-less e (r .ticks) (l .left) (l .way) (omega (arith, m .in-room, c .before .before .before .before .loop-test .taken)))
+    ∙ l .inv
 
 returns : tie.Need-returns Inv-loop μ-loop
 returns c = sym (none-left (c .before .before .args .e) (c .before .loop .left) (c .before .loop .way) (omega (arith, c .loop-test .left))) ∙ c .before .loop .inv

@@ -1,6 +1,6 @@
 -- `way::leapt` meets its contract. The calls' results put together.
 -- Assumes nothing.
-use Rattle.way_rules.proofs.Flown.{leapt-is}
+use Rattle.way_rules.proofs.AtOnce.{leapt-is}
 use borrow.Author.Needs.{needs}
 use Rattle.way.proofs.leapt.Statement.{statement}
 use Rattle.way.proofs.leapt.Tie as tie
