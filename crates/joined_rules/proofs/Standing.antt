@@ -1,4 +1,4 @@
--- A pair that stands is left as it is by any number of joined ticks.
+-- A pair that stands is left as it is by any number of joined ticks, and a pair in range that a tick leaves as it is stands.
 -- Assumes nothing.
 use Prim.Native.Nat.{ℕ}
 use mathlib.Core.Path.{_≡_, ap, ap₂, sym, _∙_}
@@ -7,21 +7,25 @@ use lib.Dec.{ltb}
 use borrow.Author.Tests.{eqb-true, le-ltb}
 use Rattle.line_rules.specs.Sending.{bit, on}
 use Rattle.line_rules.proofs.Bits.{at-most-one}
-use Rattle.line_rules.proofs.Choice.{not-so}
+use Rattle.line_rules.proofs.Choice.{all, not-so}
 use Rattle.line_rules.proofs.Table.{both}
 use Rattle.link_rules.specs.Hearing.{underWay}
 use Rattle.link_rules.specs.Within.{clear}
 use Rattle.way_rules.specs.declared.Ends.{Ends}
 use Rattle.way_rules.specs.declared.Way.{Way}
+use Rattle.way_rules.specs.Along.{wayTick}
 use Rattle.way_rules.specs.Calm.{breaks, senderStands, wayStands}
 use Rattle.way_rules.proofs.Standing.{way-stands}
+use Rattle.way_rules.proofs.StandsExactly.{unchanged-stands}
 use Rattle.ins2651_rules.specs.Ranges.{inRange, restsInRange}
+use Rattle.ins2651_rules.proofs.InRange.{parts}
 use Rattle.ins2651_rules.proofs.RestsInRange.{rests-in-range}
 use Rattle.joined_rules.specs.declared.Pair.{Pair}
-use Rattle.joined_rules.specs.Joining.{ticks}
+use Rattle.joined_rules.specs.declared.Joined.{Joined}
+use Rattle.joined_rules.specs.Joining.{joinedTick, tick, ticks}
 use Rattle.joined_rules.specs.TwoWays.{endsOf, wayOf, withWays, alongBoth, stands}
-use Rattle.joined_rules.proofs.Runs.{in-range-ticks}
-use Rattle.joined_rules.proofs.TwoWays.{two-ways}
+use Rattle.joined_rules.proofs.Runs.{BothIn, settled-pair, tick-is, in-range-ticks}
+use Rattle.joined_rules.proofs.TwoWays.{both-move, two-ways}
 
 pub stands-stays : (p : Pair) (n : ℕ) → stands p ≡ true → ticks n p ≡ p
 unfolding stands alongBoth
@@ -34,6 +38,17 @@ stands-stays p n h =
     in-range-ticks n p (record { a = a .1; b = b .1 })
     ∙ two-ways n p
     ∙ ap₂ (withWays p) (way-stands (endsOf (p .a) (p .b)) n (wayOf (p .a) (p .b)) (s .0)) (way-stands (endsOf (p .b) (p .a)) n (wayOf (p .b) (p .a)) (s .1))
+
+-- .. and of the pairs in range a single tick changes every other: one that it leaves as it is has both ways left so
+pub unchanged-pair-stands : (p : Pair) → BothIn p → tick p .pair ≡ p → stands p ≡ true
+unfolding stands
+unchanged-pair-stands p i h =
+    let there : Way = wayTick (endsOf (p .a) (p .b)) (wayOf (p .a) (p .b)) in
+    let back : Way = wayTick (endsOf (p .b) (p .a)) (wayOf (p .b) (p .a)) in
+    let same : withWays p there back ≡ p = sym (ap (λ (o : Joined). o .pair) (tick-is p ∙ ap joinedTick (settled-pair p i)) ∙ both-move p) ∙ h in
+    let s = unchanged-stands (endsOf (p .a) (p .b)) (wayOf (p .a) (p .b)) (parts (p .b) (i .b) .receiver) (ap (λ (q : Pair). wayOf (q .a) (q .b)) same) in
+    let r = unchanged-stands (endsOf (p .b) (p .a)) (wayOf (p .b) (p .a)) (parts (p .a) (i .a) .receiver) (ap (λ (q : Pair). wayOf (q .b) (q .a)) same) in
+    all (all (all s r) (i .a)) (i .b)
 
 -- a way that stands has nothing under way at either end
 under-way-none : (e : Ends) (w : Way) → wayStands e w ≡ true → (on (w .sender .frame .place) ≡ false) × (underWay (w .receiver .state) ≡ false)

@@ -33,7 +33,7 @@ end-moves d e =
     (notes (transmitTick d .device .flags) (received d (sent e .level) .overrun) (received d (sent e .level) .heard))
 
 -- a joined tick is a tick of each way
-both-move : (p : Pair) → joinedTick p .pair ≡ withWays p (wayTick (endsOf (p .a) (p .b)) (wayOf (p .a) (p .b))) (wayTick (endsOf (p .b) (p .a)) (wayOf (p .b) (p .a)))
+pub both-move : (p : Pair) → joinedTick p .pair ≡ withWays p (wayTick (endsOf (p .a) (p .b)) (wayOf (p .a) (p .b))) (wayTick (endsOf (p .b) (p .a)) (wayOf (p .b) (p .a)))
 unfolding joinedTick
 both-move p = ap₂ (λ (a b : Device). record { a = a; b = b }) (end-moves (p .a) (p .b)) (end-moves (p .b) (p .a))
 

@@ -145,23 +145,22 @@ sample-searches : (f : Format) (s : Receiver) (x : Bool) → s .phase ≡ 1 → 
 unfolding sample
 sample-searches f s x p = rw (ne-eqb (s .phase) 0 (λ z. omega arith), eq-eqb (s .phase) 1 p)
 
-sample-under : (f : Format) (s : Receiver) (x : Bool) → s .phase ≡ 2 → sample f s x ≡ under f (s .countdown) (s .look) (s .value) (s .wrong) x
+pub sample-under : (f : Format) (s : Receiver) (x : Bool) → s .phase ≡ 2 → sample f s x ≡ under f (s .countdown) (s .look) (s .value) (s .wrong) x
 unfolding sample
 sample-under f s x p = rw (ne-eqb (s .phase) 0 (λ z. omega arith), ne-eqb (s .phase) 1 (λ z. omega arith))
 
-module _ (f : Format) (s : Receiver) (x : Bool) (h : sample f s x .next ≡ lowered s 1) where
+module _ (f : Format) (s : Receiver) (x : Bool) (h : sample f s x .next .phase ≡ s .phase) where
   phase-same : (o : Sampled) → sample f s x ≡ o → o .next .phase ≡ s .phase
-  phase-same o e = sym (ap (λ (q : Sampled). q .next .phase) e) ∙ ap (λ (q : Receiver). q .phase) h
+  phase-same o e = sym (ap (λ (q : Sampled). q .next .phase) e) ∙ h
 
-  -- a character under way is between two looks
-  counts-down : s .phase ≡ 2 → 1 ≤ s .countdown
-  counts-down p =
+  -- a character under way whose next look stays is between two looks
+  pub counts-down : sample f s x .next .look ≡ s .look → s .phase ≡ 2 → 1 ≤ s .countdown
+  counts-down l p =
       let u = sample-under f s x p in
-      under-moves f (s .countdown) (s .look) (s .value) (s .wrong) x (phase-same _ u ∙ p)
-      (sym (ap (λ (o : Sampled). o .next .look) u) ∙ ap (λ (q : Receiver). q .look) h)
+      under-moves f (s .countdown) (s .look) (s .value) (s .wrong) x (phase-same _ u ∙ p) (sym (ap (λ (o : Sampled). o .next .look) u) ∙ l)
 
   -- a phase that stays is that of the level
-  stays-level : s .phase < 2 → s .phase ≡ bit x
+  pub stays-level : s .phase < 2 → s .phase ≡ bit x
   stays-level l = go (eqb (s .phase) 0) refl
     where
       go : (b : Bool) → eqb (s .phase) 0 ≡ b → s .phase ≡ bit x
@@ -176,10 +175,10 @@ module _ (r : ReceiverHalf) (ok : receiverInRange r ≡ true) where
   unfolding receiverInRange
   state-in = both (leb (r .unread) 1) (stateInRange (r .format) (r .state)) ok .1
 
-  rest-clear : r .state .phase < 2 → clear r ≡ true
+  pub rest-clear : r .state .phase < 2 → clear r ≡ true
   rest-clear l = rw (le-ltb 1 (r .state .phase) (omega arith)) at state-in
 
-  phase-in : 2 ≤ r .state .phase → r .state .phase ≡ 2
+  pub phase-in : 2 ≤ r .state .phase → r .state .phase ≡ 2
   phase-in l =
       let a = both (inRange (r .format)) (assemblyInRange (r .format) (r .state)) (rw (lt-ltb 1 (r .state .phase) l) at state-in) .1 in
       let w = both _ (wrongInRange (r .format) (r .state .look) (r .state .wrong)) a in
@@ -211,10 +210,11 @@ module _ (r : ReceiverHalf) (ok : receiverInRange r ≡ true) where
         go true u =
             let p = phase-in (ltb-true 1 (r .state .phase) u) in
             let same = receive-under r (r .format) x u ∙ sym (receive-under r f x u) in
-            under-calm p (counts-down (r .format) (r .state) x (sym (hear-state (r .format) r x (rw u)) ∙ ap (λ (o : Received). o .half .state) same ∙ next) p)
+            let step = sym (hear-state (r .format) r x (rw u)) ∙ ap (λ (o : Received). o .half .state) same ∙ next in
+            under-calm p (counts-down (r .format) (r .state) x (ap (λ (q : Receiver). q .phase) step) (ap (λ (q : Receiver). q .look) step) p)
         go false u =
             let l : r .state .phase < 2 = omega (arith, ltb-false 1 (r .state .phase) u) in
-            rest-calm l (level (stays-level f (r .state) x (sym (hear-state f r x (rw u)) ∙ next) l))
+            rest-calm l (level (stays-level f (r .state) x (ap (λ (q : Receiver). q .phase) (sym (hear-state f r x (rw u)) ∙ next)) l))
 
 -- == the way ==
 

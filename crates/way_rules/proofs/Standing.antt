@@ -23,7 +23,7 @@ use Rattle.way_rules.specs.Calm.{breaks, senderStands, receiverStands, w
 use Rattle.way_rules.proofs.Senders.{break-tick, rest-tick}
 
 -- the sender's tick sends the level of its break or of its rest, and changes nothing
-sender-stands : (e : Ends) (s : SenderHalf) → senderStands s (e .ready) (e .broken) (e .send .factor) ≡ true
+pub sender-stands : (e : Ends) (s : SenderHalf) → senderStands s (e .ready) (e .broken) (e .send .factor) ≡ true
     → transmit s (e .ready) (e .broken) (e .send) ≡ idleTick s (not (breaks e)) (s .guard)
 sender-stands e s h = go (breaks e) refl
   where
