@@ -128,6 +128,10 @@ impl Run<'_> {
         let long = self.draws.between(3000, RUN_LIMIT);
         let ticks = self.draws.of(&[RUN_LIMIT, RUN_LIMIT, long]);
         self.run(ticks);
+        // Nothing moves any more, and a run that is too long is refused all the same.
+        let above = self.draws.between(RUN_LIMIT + 1, u32::MAX);
+        let ticks = self.draws.of(&[RUN_LIMIT + 1, u32::MAX, above]);
+        self.run(ticks);
     }
 
     // Any devices, any lengths.
