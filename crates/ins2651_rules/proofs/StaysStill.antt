@@ -4,18 +4,16 @@ use Prim.Native.Nat.{ℕ, _-_}
 use native.Mathlib.Omega.{arith}
 use mathlib.Core.Path.{_≡_, ap, ap₂, _∙_}
 use mathlib.Core.Bool.{Bool, true, false, not, _&&_}
-use lib.Dec.{eqb, leb}
+use lib.Dec.{eqb}
 use borrow.Author.Tests.{eqb-true, le-ltb}
 use Rattle.line_rules.specs.declared.Format.{Format}
 use Rattle.line_rules.specs.Sending.{on}
 use Rattle.line_rules.proofs.Table.{both}
 use Rattle.line_rules.proofs.Choice.{not-so}
 use Rattle.link_rules.specs.declared.SenderHalf.{SenderHalf}
-use Rattle.link_rules.specs.declared.ReceiverHalf.{ReceiverHalf}
 use Rattle.link_rules.specs.Transmitting.{idleTick, transmit}
 use Rattle.link_rules.specs.Hearing.{receive}
-use Rattle.link_rules.specs.Within.{receiverInRange, clear}
-use Rattle.link_rules.proofs.AtRest.{is-clear, rests-on, rest-stays}
+use Rattle.link_rules.proofs.AtRest.{is-clear, in-range-clear, stays, rest-stays}
 use Rattle.ins2651_rules.specs.declared.Device.{Device}
 use Rattle.ins2651_rules.specs.Shape.{ticked}
 use Rattle.ins2651_rules.specs.Modes.{sendFormat, receiveFormat}
@@ -46,11 +44,6 @@ rests-still d e =
 
 -- == a receive tick ==
 
--- in range all that belongs to a character is 0 where none is under way
-searching-clear : (r : ReceiverHalf) → receiverInRange r ≡ true → r .state .phase ≡ 1 → clear r ≡ true
-unfolding receiverInRange
-searching-clear r h e = let t = both (leb (r .unread) 1) _ h .1 in rw e at t
-
 module _ (d : Device) (h : inRange d ≡ true) (x : ℕ) where
   pub searches-still : searches d x ≡ true → receiveTick d (on x) ≡ d
   unfolding searches receiveTick
@@ -61,7 +54,7 @@ module _ (d : Device) (h : inRange d ≡ true) (x : ℕ) where
       let f : Format = receiveFormat (d .registers) in
       ap (receivedBy d)
       (ap₂ (λ (b y : Bool). receive (d .receiver) b f y) (u .1) (u .0)
-      ∙ rest-stays (d .receiver) 1 true true f (rests-on true) (is-clear (d .receiver) 1 p (searching-clear (d .receiver) (parts d h .receiver) p)))
+      ∙ rest-stays (d .receiver) 1 true true f (stays true true) (is-clear (d .receiver) 1 p (in-range-clear (d .receiver) (parts d h .receiver) (omega (arith, p)))))
 
   -- both ticks of it
   pub still-stays : still d x ≡ true → bothTicks d (on x) ≡ ticked 1 d

@@ -1,10 +1,11 @@
 -- A receiving half with no character under way: it has no more than its phase, and there are ticks that leave it as it is.
 -- Assumes nothing.
-use Prim.Native.Nat.{ℕ}
+use Prim.Native.Nat.{ℕ, _<_}
+use native.Mathlib.Omega.{arith}
 use mathlib.Core.Path.{_≡_, refl, ap, ap₂, sym, _∙_}
 use mathlib.Core.Bool.{Bool, true, false, _&&_}
-use lib.Dec.{eqb}
-use borrow.Author.Tests.{eqb-true}
+use lib.Dec.{eqb, leb}
+use borrow.Author.Tests.{eqb-true, le-ltb}
 use Rattle.line_rules.specs.declared.Format.{Format}
 use Rattle.line_rules.specs.declared.Receiver.{Receiver}
 use Rattle.line_rules.specs.declared.Heard.the-variants.{Nothing}
@@ -13,13 +14,9 @@ use Rattle.line_rules.specs.Receiving.{atRest, sample}
 use Rattle.line_rules.proofs.Table.{both}
 use Rattle.link_rules.specs.declared.ReceiverHalf.{ReceiverHalf}
 use Rattle.link_rules.specs.declared.Received.{Received}
-use Rattle.link_rules.specs.Parts.{noFormat}
-use Rattle.link_rules.specs.Within.{isNoFormat, restInRange, clear}
+use Rattle.link_rules.specs.Parts.{noFormat, resting}
+use Rattle.link_rules.specs.Within.{isNoFormat, restInRange, clear, stateInRange, receiverInRange}
 use Rattle.link_rules.specs.Hearing.{receive}
-
--- in a phase, with what it last held, unread or not
-abbrev pub resting : ℕ → ℕ → ℕ → ReceiverHalf
-resting p v u = record { state = atRest p; format = noFormat; holding = v; unread = u }
 
 -- == all that belongs to a character is 0 ==
 
@@ -49,6 +46,11 @@ is-clear r p e h =
     let t = both (isNoFormat (r .format)) _ h in
     ap₂ (λ (s : Receiver) (g : Format). record { state = s; format = g; holding = r .holding; unread = r .unread }) (at-rest (r .state) (t .1) ∙ ap atRest e) (no-format (r .format) (t .0))
 
+-- in range it is so where none is under way
+pub in-range-clear : (r : ReceiverHalf) → receiverInRange r ≡ true → r .state .phase < 2 → clear r ≡ true
+unfolding receiverInRange
+in-range-clear r h l = let t = both (leb (r .unread) 1) (stateInRange (r .format) (r .state)) h .1 in rw (le-ltb 1 (r .state .phase) (omega arith)) at t
+
 -- == a tick ==
 
 -- what a tick leaves that brings nothing
@@ -59,16 +61,12 @@ quietly r = record { half = r; heard = Nothing; overrun = false }
 abbrev pub Stays : ℕ → Bool → Bool → Type 0
 Stays p live x = (f : Format) (v u : ℕ) → receive (resting p v u) live f x ≡ quietly (resting p v u)
 
--- the line is at the level of its phase: it waits and hears a 0, or searches and hears a 1
-pub rests-on : (x : Bool) → Stays (bit x) true x
+-- the line is at the level of its phase: it waits and hears a 0, or searches and hears a 1; or it is off, and has nothing to drop
+pub stays : (live x : Bool) → Stays (bit (live && x)) live x
 unfolding receive sample
-rests-on true f v u = refl
-rests-on false f v u = refl
-
--- off, and nothing to drop
-pub stays-off : (x : Bool) → Stays 0 false x
-unfolding receive
-stays-off x f v u = refl
+stays true true f v u = refl
+stays true false f v u = refl
+stays false x f v u = refl
 
 pub rest-stays : (r : ReceiverHalf) (p : ℕ) (live x : Bool) (f : Format) → Stays p live x → r ≡ resting p (r .holding) (r .unread) → receive r live f x ≡ quietly r
 rest-stays r p live x f s e = ap (λ (q : ReceiverHalf). receive q live f x) e ∙ s f (r .holding) (r .unread) ∙ ap quietly (sym e)

@@ -2,7 +2,7 @@
 -- Assumes nothing.
 use Prim.Native.Nat.{ℕ}
 use Rattle.line_rules.specs.declared.Format.{Format}
-use Rattle.line_rules.specs.Receiving.{waiting}
+use Rattle.line_rules.specs.Receiving.{atRest, waiting}
 use Rattle.link_rules.specs.declared.Frame.{Frame}
 use Rattle.link_rules.specs.declared.SenderHalf.{SenderHalf}
 use Rattle.link_rules.specs.declared.ReceiverHalf.{ReceiverHalf}
@@ -34,6 +34,10 @@ abbrev pub unloaded : SenderHalf → SenderHalf
 unloaded s = record { frame = s .frame; holding = 0; full = 0; guard = s .guard }
 
 -- == the receiver ==
+
+-- no character is under way: in a phase, with what it last held, unread or not
+abbrev pub resting : ℕ → ℕ → ℕ → ReceiverHalf
+resting p v u = record { state = atRest p; format = noFormat; holding = v; unread = u }
 
 -- nothing has come, and it waits for a 1
 abbrev pub idleReceiver : ReceiverHalf

@@ -1,18 +1,18 @@
 // One way of a line: a sending half, the receiving half at the other end, and the flags that they set; and many ticks of it at once where they
 // only count. Document 01, "Sending" and "Receiving", by joined ticks.
-// Every call takes any number in any field: specs/ says what each answers, inside the range and outside.
+// Every call takes any number in any field: `way_rules` says what each answers, inside the range and outside.
 ghost use mathlib.Core.Path.{_≡_};
 ghost use mathlib.Core.Bool.{false, cond};
 ghost use Prim.Native.Nat.{_+_, _*_, _-_, _^_, _%_, _≤_, _<_};
 ghost use lib.Dec.{eqb};
 ghost use Rattle.line_rules.specs.Sending.{bit, half, level, orSet};
 ghost use Rattle.line_rules.specs.Receiving.{under, stopLook, lookAt};
-ghost use Rattle.link_rules.specs.Transmitting.{transmit, frameTick, beginTick};
+ghost use Rattle.link_rules.specs.Transmitting.{frameTick, beginTick};
 ghost use Rattle.way_rules.specs.Parts.{withoutFrame, withMark, resting, assembled, tuned};
 ghost use Rattle.way_rules.specs.Along.{sent, received, sentBy, heardBy, heardAs, wayTick, wayTicks};
 ghost use Rattle.way_rules.specs.Calm;
 ghost use Rattle.way_rules.specs.Leap.{lastLook, soFar, sameBits, bothBusy, inStep, flyAt, leapTicks, looksAhead, leapLooks, doneAtOnce, Narrow, Leaps};
-ghost use Rattle.way_rules.specs.Calm.{placesLeft, senderCalm, bitLeft, senderKeeps, senderSkipped, heardCalm, wayCalm, waySkipped, senderStands, receiverStands};
+ghost use Rattle.way_rules.specs.Calm.{placesLeft, senderLevel, senderCalm, bitLeft, senderKeeps, senderSkipped, heardCalm, wayCalm, waySkipped, senderStands, receiverStands};
 use line_rules::Format;
 use link_rules::Frame;
 use link_rules::ReceiverHalf;
@@ -31,7 +31,7 @@ fn or_set(t: bool, x: u8) -> u8
 
 // The level of the sender's next tick. A frame in its stop needs no division.
 fn level_now(e: Ends, s: SenderHalf) -> bool
-    ensures { λ r. ⌜ r ≡ transmit s (e .ready) (e .broken) (e .send) .level ⌝ }
+    ensures { λ r. ⌜ r ≡ senderLevel e s ⌝ }
 {
     let g = s.frame;
     if 0 < g.place {

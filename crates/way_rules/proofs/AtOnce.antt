@@ -6,9 +6,9 @@ use native.Mathlib.Nat.{mul-le-mul-left, mul-comm, le-div-iff-mul-le}
 use native.Mathlib.Omega.{arith}
 use mathlib.Core.Path.{_≡_, refl, ap, ap₂, sym, subst, _∙_}
 use mathlib.Core.Bool.{Bool, true, false, cond, _&&_}
-use lib.Dec.{leb, eqb}
-use borrow.Author.Tests.{eqb-true, ltb-true, leb-true, lt-ltb, le-ltb, le-leb, lt-leb}
-use Rattle.line_rules.specs.Sending.{on, half, frameLength}
+use lib.Dec.{leb}
+use borrow.Author.Tests.{ltb-true, leb-true, lt-ltb, le-ltb, le-leb, lt-leb}
+use Rattle.line_rules.specs.Sending.{on, frameLength}
 use Rattle.line_rules.proofs.Choice.{either, each}
 use Rattle.line_rules.proofs.Table.{both}
 use Rattle.way_rules.specs.declared.Ends.{Ends}
@@ -16,54 +16,15 @@ use Rattle.way_rules.specs.declared.Way.{Way}
 use Rattle.way_rules.specs.declared.Moved.{Moved}
 use Rattle.way_rules.specs.Along.{wayTicks}
 use Rattle.way_rules.specs.Calm.{least, placesLeft, wayCalm}
-use Rattle.way_rules.specs.Leap.{lastLook, soFar, sameBits, bothBusy, inStep, flyAt, leapTicks, Ahead, looksAhead, leapLooks, atOnce, doneAtOnce}
+use Rattle.way_rules.specs.Leap.{lastLook, bothBusy, inStep, flyAt, leapTicks, Ahead, looksAhead, leapLooks, atOnce, doneAtOnce}
 use Rattle.way_rules.proofs.Branches.{least-both, least-is}
-use Rattle.way_rules.proofs.Senders.{at}
 use Rattle.way_rules.proofs.Flown.{leaps}
-
-pub leapt-is : (w : Way) (i m v : ℕ) → w .receiver .state .phase ≡ 2 → w .receiver .state .wrong ≡ 0 → v ≡ soFar (w .receiver .format) (w .sender .frame .character) m
-    → record {
-      sender = at (w .sender) i;
-      receiver = record {
-        state = record { phase = w .receiver .state .phase; countdown = 0; value = v; wrong = w .receiver .state .wrong; look = m };
-        format = w .receiver .format;
-        holding = w .receiver .holding;
-        unread = w .receiver .unread;
-      };
-      empty = w .empty;
-      faults = w .faults;
-    }
-    ≡ flyAt w i m 0
-leapt-is w i m v p z e =
-    let W : ℕ → ℕ → ℕ → Way = λ n v z.
-    record {
-      sender = at (w .sender) i;
-      receiver = record {
-        state = record { phase = n; countdown = 0; value = v; wrong = z; look = m };
-        format = w .receiver .format;
-        holding = w .receiver .holding;
-        unread = w .receiver .unread;
-      };
-      empty = w .empty;
-      faults = w .faults;
-    } in
-    ap (λ (n : ℕ). W n v (w .receiver .state .wrong)) p
-    ∙ ap (λ (x : ℕ). W 2 x (w .receiver .state .wrong)) e
-    ∙ ap (W 2 (soFar (w .receiver .format) (w .sender .frame .character) m)) z
 
 -- q looks ahead in x ticks or fewer
 pub looks-fit : (F wait room x q : ℕ) → 0 < F → wait ≤ room → x ≡ (room - wait) / F → q ≤ x → wait + F * q ≤ room
 looks-fit F wait room x q pos h e l =
     let d : q * F ≤ room - wait = le-div-iff-mul-le pos .0 (omega arith) in
     omega (arith, mul-comm F q)
-
--- what a receiver in step has besides
-pub in-step-has : (w : Way) → inStep w ≡ true → w .receiver .state .wrong ≡ 0
-unfolding inStep
-in-step-has w h =
-    let placed : Bool = eqb (w .sender .frame .place + w .receiver .state .countdown) (half (w .receiver .format) + w .receiver .format .factor * w .receiver .state .look) in
-    let x = both (sameBits (w .sender .frame .format) (w .receiver .format) && placed && eqb (w .receiver .state .wrong) 0) _ h in
-    eqb-true (w .receiver .state .wrong) 0 (both (sameBits (w .sender .frame .format) (w .receiver .format) && placed) _ (x .0) .1)
 
 -- the looks ahead are looks of the character, in the room
 ahead-is : (w : Way) (room q : ℕ) → q ≡ looksAhead w room → 0 < q → Ahead w room q

@@ -7,7 +7,7 @@ use native.Mathlib.Omega.{arith}
 use mathlib.Core.Path.{_≡_, refl, ap, sym, _∙_}
 use mathlib.Core.Bool.{Bool, true, false, cond, _&&_}
 use lib.Dec.{ltb, leb, eqb}
-use borrow.Author.Tests.{ltb-true, ltb-false, lt-ltb, le-ltb, eqb-true, eqb-false, eq-eqb, ne-eqb}
+use borrow.Author.Tests.{ltb-true, ltb-false, lt-ltb, eqb-true, eqb-false, eq-eqb, ne-eqb}
 use Rattle.line_rules.specs.declared.Format.{Format}
 use Rattle.line_rules.specs.declared.Receiver.{Receiver}
 use Rattle.line_rules.specs.declared.Sampled.{Sampled}
@@ -24,6 +24,7 @@ use Rattle.link_rules.specs.declared.Received.{Received}
 use Rattle.link_rules.specs.Transmitting.{frameNext, transmit}
 use Rattle.link_rules.specs.Hearing.{underWay, receive}
 use Rattle.link_rules.specs.Within.{holdingInRange, busyInRange, freeInRange, frameInRange, countdownInRange, valueInRange, wrongInRange, assemblyInRange, stateInRange, clear, senderInRange, receiverInRange}
+use Rattle.link_rules.proofs.AtRest.{in-range-clear}
 use Rattle.link_rules.proofs.Halves.{length-bound, frame-ends, off-leaves, receive-under, hear-state}
 use Rattle.way_rules.specs.declared.Ends.{Ends}
 use Rattle.way_rules.specs.declared.Way.{Way}
@@ -175,9 +176,6 @@ module _ (r : ReceiverHalf) (ok : receiverInRange r ≡ true) where
   unfolding receiverInRange
   state-in = both (leb (r .unread) 1) (stateInRange (r .format) (r .state)) ok .1
 
-  pub rest-clear : r .state .phase < 2 → clear r ≡ true
-  rest-clear l = rw (le-ltb 1 (r .state .phase) (omega arith)) at state-in
-
   pub phase-in : 2 ≤ r .state .phase → r .state .phase ≡ 2
   phase-in l =
       let a = both (inRange (r .format)) (assemblyInRange (r .format) (r .state)) (rw (lt-ltb 1 (r .state .phase) l) at state-in) .1 in
@@ -189,7 +187,7 @@ module _ (r : ReceiverHalf) (ok : receiverInRange r ≡ true) where
   module _ (keeps : ℕ) where
     off-calm : 0 ≡ r .state .phase → 1 ≤ receiverCalm r false keeps
     unfolding receiverCalm
-    off-calm p = rw (eq-eqb (r .state .phase) 0 (sym p), rest-clear (omega arith)) (omega arith)
+    off-calm p = rw (eq-eqb (r .state .phase) 0 (sym p), in-range-clear r ok (omega arith)) (omega arith)
 
     under-calm : r .state .phase ≡ 2 → 1 ≤ r .state .countdown → 1 ≤ receiverCalm r true keeps
     unfolding receiverCalm
@@ -197,7 +195,7 @@ module _ (r : ReceiverHalf) (ok : receiverInRange r ≡ true) where
 
     rest-calm : r .state .phase < 2 → 1 ≤ keeps → 1 ≤ receiverCalm r true keeps
     unfolding receiverCalm
-    rest-calm l k = rw (ne-eqb (r .state .phase) 2 (λ z. omega arith), rest-clear l) k
+    rest-calm l k = rw (ne-eqb (r .state .phase) 2 (λ z. omega arith), in-range-clear r ok l) k
 
     receiver-calm : (live : Bool) (f : Format) (x : Bool) → receive r live f x .half ≡ receiverSkipped 1 r → (r .state .phase ≡ bit x → 1 ≤ keeps) → 1 ≤ receiverCalm r live keeps
     receiver-calm false f x h level = off-calm (sym (ap (λ (s : Receiver). s .phase) (off-leaves r f x .state)) ∙ ap (λ (q : ReceiverHalf). q .state .phase) h)

@@ -174,18 +174,26 @@ module _ (e : Ends) (w : Way) (live : e .live ≡ true) (byte : w .sender .frame
 
 -- == the leap ==
 
-in-step-is : (w : Way) → bothBusy w ≡ true → inStep w ≡ true → w ≡ flyAt w (w .sender .frame .place) (w .receiver .state .look) (w .receiver .state .countdown)
-unfolding inStep
-in-step-is w b h =
-    let placed : Bool = eqb (w .sender .frame .place + w .receiver .state .countdown) (half (w .receiver .format) + w .receiver .format .factor * w .receiver .state .look) in
-    let x = both (sameBits (w .sender .frame .format) (w .receiver .format) && placed && eqb (w .receiver .state .wrong) 0) (eqb (w .receiver .state .value) (soFar (w .receiver .format) (w .sender .frame .character) (w .receiver .state .look))) h in
-    let y = both (sameBits (w .sender .frame .format) (w .receiver .format) && placed) (eqb (w .receiver .state .wrong) 0) (x .0) in
-    let p = both (on (w .sender .frame .place)) (eqb (w .receiver .state .phase) 2) b in
-    let W : ℕ → ℕ → ℕ → Way = λ n v z.
-    record {
-      sender = w .sender;
+-- a way whose receiver has a character under way, no wrong parity and the bits so far
+pub flies-as : (w : Way) (i m k v : ℕ) → w .receiver .state .phase ≡ 2 → w .receiver .state .wrong ≡ 0 → v ≡ soFar (w .receiver .format) (w .sender .frame .character) m
+    → record {
+      sender = at (w .sender) i;
       receiver = record {
-        state = record { phase = n; countdown = w .receiver .state .countdown; value = v; wrong = z; look = w .receiver .state .look };
+        state = record { phase = w .receiver .state .phase; countdown = k; value = v; wrong = w .receiver .state .wrong; look = m };
+        format = w .receiver .format;
+        holding = w .receiver .holding;
+        unread = w .receiver .unread;
+      };
+      empty = w .empty;
+      faults = w .faults;
+    }
+    ≡ flyAt w i m k
+flies-as w i m k v p z e =
+    let W : ℕ → ℕ → ℕ → Way = λ n x y.
+    record {
+      sender = at (w .sender) i;
+      receiver = record {
+        state = record { phase = n; countdown = k; value = x; wrong = y; look = m };
         format = w .receiver .format;
         holding = w .receiver .holding;
         unread = w .receiver .unread;
@@ -193,9 +201,31 @@ in-step-is w b h =
       empty = w .empty;
       faults = w .faults;
     } in
-    ap (λ (n : ℕ). W n (w .receiver .state .value) (w .receiver .state .wrong)) (eqb-true (w .receiver .state .phase) 2 (p .1))
-    ∙ ap (λ (v : ℕ). W 2 v (w .receiver .state .wrong)) (eqb-true (w .receiver .state .value) (soFar (w .receiver .format) (w .sender .frame .character) (w .receiver .state .look)) (x .1))
-    ∙ ap (W 2 (soFar (w .receiver .format) (w .sender .frame .character) (w .receiver .state .look))) (eqb-true (w .receiver .state .wrong) 0 (y .1))
+    ap (λ (n : ℕ). W n v (w .receiver .state .wrong)) p
+    ∙ ap (λ (x : ℕ). W 2 x (w .receiver .state .wrong)) e
+    ∙ ap (W 2 (soFar (w .receiver .format) (w .sender .frame .character) m)) z
+
+-- what being in step says
+pub record InStep (w : Way) : Type 0 where
+  pub bits : sameBits (w .sender .frame .format) (w .receiver .format) ≡ true
+  pub place : w .sender .frame .place + w .receiver .state .countdown ≡ half (w .receiver .format) + w .receiver .format .factor * w .receiver .state .look
+  pub wrong : w .receiver .state .wrong ≡ 0
+  pub value : w .receiver .state .value ≡ soFar (w .receiver .format) (w .sender .frame .character) (w .receiver .state .look)
+
+pub step-parts : (w : Way) → inStep w ≡ true → InStep w
+unfolding inStep
+step-parts w h =
+    let placed : Bool = eqb (w .sender .frame .place + w .receiver .state .countdown) (half (w .receiver .format) + w .receiver .format .factor * w .receiver .state .look) in
+    let x = both (sameBits (w .sender .frame .format) (w .receiver .format) && placed && eqb (w .receiver .state .wrong) 0) _ h in
+    let y = both (sameBits (w .sender .frame .format) (w .receiver .format) && placed) _ (x .0) in
+    let z = both (sameBits (w .sender .frame .format) (w .receiver .format)) placed (y .0) in
+    record { bits = z .0; place = eqb-true _ _ (z .1); wrong = eqb-true _ _ (y .1); value = eqb-true _ _ (x .1) }
+
+in-step-is : (w : Way) → bothBusy w ≡ true → inStep w ≡ true → w ≡ flyAt w (w .sender .frame .place) (w .receiver .state .look) (w .receiver .state .countdown)
+in-step-is w b h =
+    let s = step-parts w h in
+    let p = both (on (w .sender .frame .place)) (eqb (w .receiver .state .phase) 2) b in
+    flies-as w (w .sender .frame .place) (w .receiver .state .look) (w .receiver .state .countdown) (w .receiver .state .value) (eqb-true (w .receiver .state .phase) 2 (p .1)) (s .wrong) (s .value)
 
 alike-is : (f g : Format) → sameBits f g ≡ true → Alike f g
 alike-is f g h =
@@ -203,15 +233,6 @@ alike-is f g h =
     let y = both (eqb (f .factor) (g .factor) && eqb (f .length) (g .length)) _ (x .0) in
     let z = both (eqb (f .factor) (g .factor)) _ (y .0) in
     record { factor = eqb-true _ _ (z .0); length = eqb-true _ _ (z .1); parity = ap on (eqb-true (f .parity) (g .parity) (y .1)); kind = λ e. ap on (eqb-true (f .even) (g .even) (x .1)) }
-
-step-parts : (w : Way) → inStep w ≡ true
-    → (sameBits (w .sender .frame .format) (w .receiver .format) ≡ true)
-    × (eqb (w .sender .frame .place + w .receiver .state .countdown) (half (w .receiver .format) + w .receiver .format .factor * w .receiver .state .look) ≡ true)
-unfolding inStep
-step-parts w step =
-    let x = both _ (eqb (w .receiver .state .value) (soFar (w .receiver .format) (w .sender .frame .character) (w .receiver .state .look))) step in
-    let y = both _ (eqb (w .receiver .state .wrong) 0) (x .0) in
-    both (sameBits (w .sender .frame .format) (w .receiver .format)) _ (y .0)
 
 -- to the look q after the next
 pub leaps : (e : Ends) (w : Way) (q : ℕ) → e .live ≡ true → w .sender .frame .character < 256 → bothBusy w ≡ true → inStep w ≡ true
@@ -231,7 +252,7 @@ leaps e w q live byte busy step a =
     ∙ ap (λ (j : ℕ). flyAt w j (m + q) 0) (let r : i + k + F * q ≡ i + (k + F * q) = omega arith in r)
   where
     alike : Alike (w .sender .frame .format) (w .receiver .format)
-    alike = alike-is _ _ (step-parts w step .0)
+    alike = alike-is _ _ (step-parts w step .bits)
 
     placed : w .sender .frame .place + w .receiver .state .countdown ≡ half (w .receiver .format) + w .receiver .format .factor * w .receiver .state .look
-    placed = eqb-true _ _ (step-parts w step .1)
+    placed = step-parts w step .place

@@ -11,12 +11,12 @@ use Rattle.line_rules.specs.Sending.{bit}
 use Rattle.line_rules.specs.Receiving.{assembling, sample}
 use Rattle.line_rules.proofs.Choice.{each}
 use Rattle.link_rules.specs.declared.ReceiverHalf.{ReceiverHalf}
-use Rattle.link_rules.specs.Parts.{noFormat}
+use Rattle.link_rules.specs.Parts.{noFormat, resting}
 use Rattle.link_rules.specs.Within.{clear}
 use Rattle.link_rules.specs.Hearing.{receive}
 use Rattle.way_rules.specs.Calm.{receiverCalm, receiverSkipped}
 use Rattle.line_rules.proofs.Table.{both}
-use Rattle.link_rules.proofs.AtRest.{resting, quietly, is-clear, Stays, rests-on, stays-off, rest-stays}
+use Rattle.link_rules.proofs.AtRest.{quietly, is-clear, Stays, stays, rest-stays}
 use Rattle.way_rules.proofs.Senders.{endless-so}
 
 -- between two looks, whatever the sample
@@ -92,8 +92,8 @@ module _ (r : ReceiverHalf) (live : Bool) (keeps : ℕ) (h : 1 ≤ receiverCalm 
   receiver-counts f x level =
       by-phase r live keeps h
       (λ l e q. looks-kept r live f x l e (omega arith))
-      (λ l q e. rest-kept r live f x (bit x) true l (rests-on x) (e ∙ ap (λ (p : ℕ). resting p (r .holding) (r .unread)) (level (omega arith))))
-      (λ l e. rest-kept r live f x 0 false l (stays-off x) e)
+      (λ l q e. rest-kept r live f x (bit x) true l (stays true x) (e ∙ ap (λ (p : ℕ). resting p (r .holding) (r .unread)) (level (omega arith))))
+      (λ l e. rest-kept r live f x 0 false l (stays false x) e)
 
   -- == many ==
 

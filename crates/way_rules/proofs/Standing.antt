@@ -3,9 +3,10 @@
 use Prim.Native.Nat.{ℕ, zero, suc, _-_}
 use native.Mathlib.Omega.{arith}
 use mathlib.Core.Path.{_≡_, refl, ap, ap₂, sym, _∙_}
-use mathlib.Core.Bool.{Bool, true, false, not}
+use mathlib.Core.Bool.{Bool, true, false, not, _&&_}
 use lib.Dec.{eqb}
 use borrow.Author.Tests.{eqb-true}
+use Rattle.line_rules.specs.declared.Format.{Format}
 use Rattle.line_rules.specs.Sending.{bit, on}
 use Rattle.line_rules.proofs.Choice.{not-so}
 use Rattle.line_rules.proofs.Table.{both}
@@ -15,7 +16,7 @@ use Rattle.link_rules.specs.declared.Sent.{Sent}
 use Rattle.link_rules.specs.Transmitting.{idleTick, transmit}
 use Rattle.link_rules.specs.Hearing.{receive}
 use Rattle.link_rules.specs.Within.{clear}
-use Rattle.link_rules.proofs.AtRest.{quietly, is-clear, rests-on, stays-off, rest-stays}
+use Rattle.link_rules.proofs.AtRest.{quietly, is-clear, stays, rest-stays}
 use Rattle.way_rules.specs.declared.Ends.{Ends}
 use Rattle.way_rules.specs.declared.Way.{Way}
 use Rattle.way_rules.specs.Along.{received, sentBy, heardBy, wayTick, wayTicks}
@@ -42,20 +43,18 @@ sender-stands e s h = go (breaks e) refl
         rest-tick e s free b (ap on g) (not-so _ (r .1))
         ∙ ap₂ (λ (x : Bool) (k : ℕ). idleTick s (not x) k) (sym b) (let q : s .guard - 1 ≡ s .guard = omega (arith, g) in q)
 
-receiver-stands : (r : ReceiverHalf) (live level : Bool) (e : Ends) → e .live ≡ live → receiverStands r live level ≡ true → receive r live (e .hear) level ≡ quietly r
-receiver-stands r true level e l h =
+receiver-stands : (r : ReceiverHalf) (live level : Bool) (f : Format) → receiverStands r live level ≡ true → receive r live f level ≡ quietly r
+receiver-stands r live level f h =
     let t = both (clear r) _ h in
-    rest-stays r (bit level) true level (e .hear) (rests-on level) (is-clear r (bit level) (eqb-true _ _ (t .1)) (t .0))
-receiver-stands r false level e l h =
-    let t = both (clear r) _ h in
-    rest-stays r 0 false level (e .hear) (stays-off level) (is-clear r 0 (eqb-true _ _ (t .1)) (t .0))
+    let p : ℕ = bit (live && level) in
+    rest-stays r p live level f (stays live level) (is-clear r p (eqb-true _ _ (t .1)) (t .0))
 
 tick-stands : (e : Ends) (w : Way) → wayStands e w ≡ true → wayTick e w ≡ w
 unfolding wayStands wayTick
 tick-stands e w h =
     let t = both (senderStands (w .sender) (e .ready) (e .broken) (e .send .factor)) _ h in
     ap (λ (o : Sent). heardBy (sentBy e w o) (received e w (o .level))) (sender-stands e (w .sender) (t .0))
-    ∙ ap (heardBy w) (receiver-stands (w .receiver) (e .live) (not (breaks e)) e refl (t .1))
+    ∙ ap (heardBy w) (receiver-stands (w .receiver) (e .live) (not (breaks e)) (e .hear) (t .1))
 
 pub way-stands : (e : Ends) (n : ℕ) (w : Way) → wayStands e w ≡ true → wayTicks e n w ≡ w
 way-stands e zero w h = refl

@@ -21,12 +21,13 @@ use Rattle.link_rules.specs.declared.Sent.{Sent}
 use Rattle.link_rules.specs.Transmitting.{nextPlace, frameNext, transmit}
 use Rattle.link_rules.specs.Hearing.{underWay, receive}
 use Rattle.link_rules.specs.Within.{receiverInRange}
+use Rattle.link_rules.proofs.AtRest.{in-range-clear}
 use Rattle.link_rules.proofs.Halves.{off-leaves, receive-under, hear-state}
 use Rattle.way_rules.specs.declared.Ends.{Ends}
 use Rattle.way_rules.specs.declared.Way.{Way}
 use Rattle.way_rules.specs.Along.{sent, wayTick}
 use Rattle.way_rules.specs.Calm.{breaks, senderStands, receiverStands, wayStands}
-use Rattle.way_rules.proofs.Exactly.{sample-under, counts-down, stays-level, rest-clear, phase-in}
+use Rattle.way_rules.proofs.Exactly.{sample-under, counts-down, stays-level, phase-in}
 use Rattle.way_rules.proofs.Standing.{sender-stands}
 
 -- == the sender ==
@@ -87,7 +88,7 @@ under-changes f s x p h =
 receiver-unchanged : (r : ReceiverHalf) → receiverInRange r ≡ true → (live : Bool) (f : Format) (x : Bool) → receive r live f x .half ≡ r → receiverStands r live x ≡ true
 receiver-unchanged r ok false f x h =
     let p : 0 ≡ r .state .phase = sym (ap (λ (s : Receiver). s .phase) (off-leaves r f x .state)) ∙ ap (λ (q : ReceiverHalf). q .state .phase) h in
-    all (rest-clear r ok (omega arith)) (eq-eqb (r .state .phase) 0 (sym p))
+    all (in-range-clear r ok (omega arith)) (eq-eqb (r .state .phase) 0 (sym p))
 receiver-unchanged r ok true f x h = go (underWay (r .state)) refl
   where
     next : receive r true f x .half .state ≡ r .state
@@ -100,7 +101,7 @@ receiver-unchanged r ok true f x h = go (underWay (r .state)) refl
         absurd (under-changes (r .format) (r .state) x (phase-in r ok (ltb-true 1 (r .state .phase) u)) step)
     go false u =
         let l : r .state .phase < 2 = omega (arith, ltb-false 1 (r .state .phase) u) in
-        all (rest-clear r ok l) (eq-eqb _ _ (stays-level f (r .state) x (ap (λ (q : Receiver). q .phase) (sym (hear-state f r x (rw u)) ∙ next)) l))
+        all (in-range-clear r ok l) (eq-eqb _ _ (stays-level f (r .state) x (ap (λ (q : Receiver). q .phase) (sym (hear-state f r x (rw u)) ∙ next)) l))
 
 -- == the way ==
 

@@ -5,10 +5,9 @@ use Prim.Native.Nat.{ℕ}
 use mathlib.Core.Bool.{Bool, true, false}
 use mathlib.Core.List.{List, [], _∷_}
 use Rattle.line_rules.specs.declared.Format.{Format}
-use Rattle.line_rules.specs.Receiving.{atRest}
 use Rattle.link_rules.specs.declared.SenderHalf.{SenderHalf}
 use Rattle.link_rules.specs.declared.ReceiverHalf.{ReceiverHalf}
-use Rattle.link_rules.specs.Parts.{noFormat, noFrame}
+use Rattle.link_rules.specs.Parts.{noFrame, resting}
 use Rattle.way_rules.specs.declared.Ends.{Ends}
 use Rattle.way_rules.specs.declared.Way.{Way}
 use Rattle.way_rules.specs.Along.{wayTicks}
@@ -44,10 +43,6 @@ waits c full guard = record { frame = noFrame; holding = c; full = full; guard =
 abbrev ending : ℕ → SenderHalf
 ending full = record { frame = record { character = 21; format = plain; place = 6 }; holding = 0; full = full; guard = 0 }
 
--- in a phase, with what it holds, unread or not
-abbrev rests : ℕ → ℕ → ℕ → ReceiverHalf
-rests p v u = record { state = atRest p; format = noFormat; holding = v; unread = u }
-
 -- the faults by framing, overrun and parity
 abbrev way : SenderHalf → ReceiverHalf → ℕ → ℕ → ℕ → ℕ → Way
 way s r empty framing overrun parity = record { sender = s; receiver = r; empty = empty; faults = record { framing = framing; overrun = overrun; parity = parity } }
@@ -60,17 +55,17 @@ good = ends false true plain plain
 unfoldable pub cases : List Case
 cases =
     -- a character goes over, and the frame ends with nothing waiting
-    record { ends = good; before = way (waits 21 1 0) (rests 1 0 0) 0 0 0 0; ticks = 7; after = way (waits 0 0 0) (rests 1 21 1) 1 0 0 0 }
+    record { ends = good; before = way (waits 21 1 0) (resting 1 0 0) 0 0 0 0; ticks = 7; after = way (waits 0 0 0) (resting 1 21 1) 1 0 0 0 }
     -- .. which found the one before it unread
-    ∷ record { ends = good; before = way (waits 21 1 0) (rests 1 10 1) 0 0 0 0; ticks = 7; after = way (waits 0 0 0) (rests 1 21 1) 1 0 1 0 }
+    ∷ record { ends = good; before = way (waits 21 1 0) (resting 1 10 1) 0 0 0 0; ticks = 7; after = way (waits 0 0 0) (resting 1 21 1) 1 0 1 0 }
     -- flags that are set stay through a good character
-    ∷ record { ends = good; before = way (waits 21 1 0) (rests 1 10 0) 0 1 1 1; ticks = 7; after = way (waits 0 0 0) (rests 1 21 1) 1 1 1 1 }
+    ∷ record { ends = good; before = way (waits 21 1 0) (resting 1 10 0) 0 1 1 1; ticks = 7; after = way (waits 0 0 0) (resting 1 21 1) 1 1 1 1 }
     -- sent with even parity and heard with odd
-    ∷ record { ends = ends false true (five 1 1) (five 1 0); before = way (waits 21 1 0) (rests 1 0 0) 0 0 0 0; ticks = 8; after = way (waits 0 0 0) (rests 1 21 1) 1 0 0 1 }
+    ∷ record { ends = ends false true (five 1 1) (five 1 0); before = way (waits 21 1 0) (resting 1 0 0) 0 0 0 0; ticks = 8; after = way (waits 0 0 0) (resting 1 21 1) 1 0 0 1 }
     -- a break is a character of zeros with a bad stop; a guard of F stands, and the receiver waits for a 1
-    ∷ record { ends = ends true true plain plain; before = way (waits 0 0 0) (rests 1 9 0) 0 0 0 0; ticks = 12; after = way (waits 0 0 1) (rests 0 0 1) 0 1 0 0 }
+    ∷ record { ends = ends true true plain plain; before = way (waits 0 0 0) (resting 1 9 0) 0 0 0 0; ticks = 12; after = way (waits 0 0 1) (resting 0 0 1) 0 1 0 0 }
     -- a frame that ends while transmit is disabled sets no mark
-    ∷ record { ends = ends false false plain plain; before = way (ending 0) (rests 1 0 0) 0 0 0 0; ticks = 1; after = way (waits 0 0 0) (rests 1 0 0) 0 0 0 0 }
+    ∷ record { ends = ends false false plain plain; before = way (ending 0) (resting 1 0 0) 0 0 0 0; ticks = 1; after = way (waits 0 0 0) (resting 1 0 0) 0 0 0 0 }
     -- nor does one that finds a character waiting
-    ∷ record { ends = good; before = way (ending 1) (rests 1 0 0) 0 0 0 0; ticks = 1; after = way (waits 0 1 0) (rests 1 0 0) 0 0 0 0 }
+    ∷ record { ends = good; before = way (ending 1) (resting 1 0 0) 0 0 0 0; ticks = 1; after = way (waits 0 1 0) (resting 1 0 0) 0 0 0 0 }
     ∷ []

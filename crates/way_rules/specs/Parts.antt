@@ -4,10 +4,11 @@ use Prim.Native.Nat.{ℕ}
 use mathlib.Core.Bool.{Bool}
 use Rattle.line_rules.specs.declared.Format.{Format}
 use Rattle.line_rules.specs.Sending.{orSet}
-use Rattle.line_rules.specs.Receiving.{atRest, assembling}
+use Rattle.line_rules.specs.Receiving.{assembling}
 use Rattle.link_rules.specs.declared.SenderHalf.{SenderHalf}
 use Rattle.link_rules.specs.declared.ReceiverHalf.{ReceiverHalf}
-use Rattle.link_rules.specs.Parts.{noFormat, noFrame, withFrame}
+use Rattle.link_rules.specs.Parts as half
+use Rattle.link_rules.specs.Parts.{noFrame, withFrame}
 use Rattle.way_rules.specs.declared.Way.{Way}
 
 abbrev pub withSender : Way → SenderHalf → Way
@@ -26,7 +27,7 @@ withoutFrame w = withSender w (withFrame (w .sender) noFrame)
 
 -- no character is under way
 abbrev pub resting : ℕ → Way → Way
-resting p w = withReceiver w (record { state = atRest p; format = noFormat; holding = w .receiver .holding; unread = w .receiver .unread })
+resting p w = withReceiver w (half.resting p (w .receiver .holding) (w .receiver .unread))
 
 -- one is
 abbrev pub assembled : ℕ → ℕ → ℕ → ℕ → Way → Way

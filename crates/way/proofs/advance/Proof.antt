@@ -9,7 +9,8 @@ use Rattle.line_rules.proofs.Table.{both}
 use borrow.Author.Tests.{eqb-true}
 use Rattle.way_rules.specs.Calm.{least}
 use Rattle.way_rules.proofs.Branches.{least-is}
-use Rattle.way_rules.proofs.AtOnce.{leap-is, leap-done, skip-done, in-step-has}
+use Rattle.way_rules.proofs.AtOnce.{leap-is, leap-done, skip-done}
+use Rattle.way_rules.proofs.Flown.{step-parts}
 use borrow.Author.Needs.{needs}
 use Rattle.way.proofs.advance.Statement.{statement}
 use Rattle.way.proofs.advance.Tie as tie
@@ -27,7 +28,7 @@ leapt-requires c κs =
       placed = omega (arith, l .placed, c .leap-ticks .ensures);
       looked = omega (arith, c .before .before .leap-looks .ensures .1 (c .before .if1 .taken) .look);
       phase = eqb-true (a .w .receiver .state .phase) 2 (both (on (a .w .sender .frame .place)) (eqb (a .w .receiver .state .phase) 2) (l .busy) .1);
-      wrong = in-step-has (a .w) (l .step);
+      wrong = step-parts (a .w) (l .step) .wrong;
     }
 
 returns : tie.Need-returns

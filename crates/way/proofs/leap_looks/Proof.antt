@@ -1,8 +1,8 @@
 -- `way::leap_looks` meets its contract. By whether a frame is followed, and the receiver in step.
 -- Assumes nothing.
 use Prim.Native.Nat.{ℕ}
-use mathlib.Core.Path.{_≡_, ap, ap₂, sym, _∙_}
-use mathlib.Core.Bool.{Bool, false, _&&_}
+use mathlib.Core.Path.{ap, ap₂, sym, _∙_}
+use mathlib.Core.Bool.{Bool, _&&_}
 use Rattle.line_rules.proofs.Choice.{all}
 use native.Mathlib.Omega.{arith}
 use Rattle.way_rules.specs.Calm.{least}
