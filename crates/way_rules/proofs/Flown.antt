@@ -207,7 +207,7 @@ flies-as w i m k v p z e =
 
 -- what being in step says
 pub record InStep (w : Way) : Type 0 where
-  pub bits : sameBits (w .sender .frame .format) (w .receiver .format) ≡ true
+  pub same-bits : sameBits (w .sender .frame .format) (w .receiver .format) ≡ true
   pub place : w .sender .frame .place + w .receiver .state .countdown ≡ half (w .receiver .format) + w .receiver .format .factor * w .receiver .state .look
   pub wrong : w .receiver .state .wrong ≡ 0
   pub value : w .receiver .state .value ≡ soFar (w .receiver .format) (w .sender .frame .character) (w .receiver .state .look)
@@ -219,7 +219,7 @@ step-parts w h =
     let x = both (sameBits (w .sender .frame .format) (w .receiver .format) && placed && eqb (w .receiver .state .wrong) 0) _ h in
     let y = both (sameBits (w .sender .frame .format) (w .receiver .format) && placed) _ (x .0) in
     let z = both (sameBits (w .sender .frame .format) (w .receiver .format)) placed (y .0) in
-    record { bits = z .0; place = eqb-true _ _ (z .1); wrong = eqb-true _ _ (y .1); value = eqb-true _ _ (x .1) }
+    record { same-bits = z .0; place = eqb-true _ _ (z .1); wrong = eqb-true _ _ (y .1); value = eqb-true _ _ (x .1) }
 
 in-step-is : (w : Way) → bothBusy w ≡ true → inStep w ≡ true → w ≡ flyAt w (w .sender .frame .place) (w .receiver .state .look) (w .receiver .state .countdown)
 in-step-is w b h =
@@ -252,7 +252,7 @@ leaps e w q live byte busy step a =
     ∙ ap (λ (j : ℕ). flyAt w j (m + q) 0) (let r : i + k + F * q ≡ i + (k + F * q) = omega arith in r)
   where
     alike : Alike (w .sender .frame .format) (w .receiver .format)
-    alike = alike-is _ _ (step-parts w step .bits)
+    alike = alike-is _ _ (step-parts w step .same-bits)
 
     placed : w .sender .frame .place + w .receiver .state .countdown ≡ half (w .receiver .format) + w .receiver .format .factor * w .receiver .state .look
     placed = step-parts w step .place
