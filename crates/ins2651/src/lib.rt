@@ -4,7 +4,7 @@
 // they are for a caller that settles its device once (docs/RANGES.md).
 ghost use mathlib.Core.Path.{_≡_};
 ghost use Prim.Native.Nat.{_≤_};
-ghost use Rattle.line_rules.specs.Sending.{bit, orSet};
+ghost use Rattle.line_rules.specs.Sending.{bit};
 ghost use Rattle.ins2651_rules.specs.Shape;
 ghost use Rattle.ins2651_rules.specs.Shape.{resetDevice, refusedRead, refused};
 ghost use Rattle.ins2651_rules.specs.Modes;
@@ -61,12 +61,6 @@ fn unless(t: bool, x: u8) -> u8
     ensures { λ r. ⌜ r ≡ RegisterWrites.unless t x ⌝ }
 {
     if t { 0 } else { x }
-}
-
-fn or_set(t: bool, x: u8) -> u8
-    ensures { λ r. ⌜ r ≡ orSet t x ⌝ }
-{
-    if t { 1 } else { x }
 }
 
 // == modes ==
@@ -674,7 +668,7 @@ fn changes(p: Pins, dsr: u8, dcd: u8) -> bool
 pub fn pinned(mut d: Device, dsr: u8, dcd: u8, cts: u8) -> Device
     ensures { λ r. ⌜ r ≡ Pinning.pinned d dsr dcd cts ⌝ }
 {
-    let change = or_set(changes(d.pins, dsr, dcd), d.flags.change);
+    let change = line::or_set(changes(d.pins, dsr, dcd), d.flags.change);
     let pins = Pins {
         dsr: dsr,
         dcd: dcd,
@@ -714,7 +708,7 @@ fn sent(d: Device) -> Sent
 fn sent_by(mut d: Device, s: Sent) -> Ticked
     ensures { λ r. ⌜ r ≡ sentBy d s ⌝ }
 {
-    let empty = or_set(s.drained & transmit_enabled(d), d.flags.empty);
+    let empty = line::or_set(s.drained & transmit_enabled(d), d.flags.empty);
     let half = s.half;
     d.sender = half;
     d.flags.empty = empty;
@@ -746,9 +740,9 @@ fn noted(f: Flags, overrun: bool, heard: Heard) -> Flags
     match heard {
         Heard::Nothing => f,
         Heard::Character(a) => Flags {
-            framing: or_set(a.framing, f.framing),
-            overrun: or_set(overrun, f.overrun),
-            parity: or_set(a.parity, f.parity),
+            framing: line::or_set(a.framing, f.framing),
+            overrun: line::or_set(overrun, f.overrun),
+            parity: line::or_set(a.parity, f.parity),
             empty: f.empty,
             change: f.change,
         },

@@ -4,7 +4,7 @@ ghost use mathlib.Core.Path.{_≡_};
 ghost use Prim.Native.Nat.{suc, _*_, _-_, _^_, _/_, _%_, _≤_, _<_};
 ghost use lib.Dec.{eqb};
 ghost use Rattle.line_rules.specs.Sending;
-ghost use Rattle.line_rules.specs.Sending.{bit, parityBits, beforeStop, frameLength, stopSample, parityBit, bitAt, dataLevel, parityLevel};
+ghost use Rattle.line_rules.specs.Sending.{bit, parityBits, beforeStop, frameLength, stopSample, parityBit, bitAt, dataLevel, parityLevel, orSet};
 ghost use Rattle.line_rules.specs.Range.{isFactor, isStop, isLength, inRange};
 ghost use Rattle.line_rules.specs.Receiving;
 ghost use Rattle.line_rules.specs.Receiving.{atRest, afterMark, lookNext, withBit, startLook, parityLook, stopLook, lookAt};
@@ -32,6 +32,13 @@ pub fn number(b: bool) -> u8
     ensures { λ r. ⌜ (r ≡ bit b) × (r ≤ 1) ⌝ }
 {
     if b { 1 } else { 0 }
+}
+
+// A mark that is set where t is so, and otherwise stays as it is.
+pub fn or_set(t: bool, x: u8) -> u8
+    ensures { λ r. ⌜ r ≡ orSet t x ⌝ }
+{
+    if t { 1 } else { x }
 }
 
 // Whether a format is one of document 01.

@@ -5,7 +5,7 @@ ghost use mathlib.Core.Path.{_≡_};
 ghost use mathlib.Core.Bool.{false, cond};
 ghost use Prim.Native.Nat.{_+_, _*_, _-_, _^_, _%_, _≤_, _<_};
 ghost use lib.Dec.{eqb};
-ghost use Rattle.line_rules.specs.Sending.{bit, half, level, orSet};
+ghost use Rattle.line_rules.specs.Sending.{bit, half, level};
 ghost use Rattle.line_rules.specs.Receiving.{under, stopLook, lookAt};
 ghost use Rattle.link_rules.specs.Transmitting.{frameTick, beginTick};
 ghost use Rattle.way_rules.specs.Parts.{withoutFrame, withMark, resting, assembled, tuned};
@@ -22,12 +22,6 @@ use way_rules::Moved;
 use way_rules::Way;
 
 // == a tick ==
-
-fn or_set(t: bool, x: u8) -> u8
-    ensures { λ r. ⌜ r ≡ orSet t x ⌝ }
-{
-    if t { 1 } else { x }
-}
 
 // The level of the sender's next tick. A frame in its stop needs no division.
 fn level_now(e: Ends, s: SenderHalf) -> bool
@@ -67,7 +61,7 @@ fn unframed(mut w: Way) -> Way
 fn ended(on: bool, mut w: Way) -> Way
     ensures { λ r. ⌜ r ≡ withMark on (withoutFrame w) ⌝ }
 {
-    let empty = or_set(on, w.empty);
+    let empty = line::or_set(on, w.empty);
     w.empty = empty;
     unframed(w)
 }
@@ -196,9 +190,9 @@ fn arrive(x: bool, mut w: Way) -> Way
     ensures { λ r. ⌜ r ≡ heardAs w (w .receiver .format) (stopLook (w .receiver .state .value) (w .receiver .state .wrong) x) ⌝ }
 {
     let value = w.receiver.state.value;
-    let framing = or_set(!x, w.faults.framing);
-    let overrun = or_set(0 < w.receiver.unread, w.faults.overrun);
-    let parity = or_set(0 < w.receiver.state.wrong, w.faults.parity);
+    let framing = line::or_set(!x, w.faults.framing);
+    let overrun = line::or_set(0 < w.receiver.unread, w.faults.overrun);
+    let parity = line::or_set(0 < w.receiver.state.wrong, w.faults.parity);
     w.receiver.holding = value;
     w.receiver.unread = 1;
     w.faults.framing = framing;
