@@ -137,6 +137,89 @@ static void refuses_at_rest(void) {
     refuses_too_many(&pair);
 }
 
+/* == waits == */
+
+/* Joined ticks one by one until a device of the pair holds an unread character, or the limit is used up; answers their count. */
+static uint32_t ticks_until(ins2651_pair *pair, ins2651 *device, uint32_t limit) {
+    uint32_t count = 0;
+    while (count < limit && !(ins2651_peek(device) & INS2651_STATUS_RXRDY)) {
+        ins2651_joined_tick(pair);
+        count++;
+    }
+    return count;
+}
+
+/* A wait, with single joined ticks beside it; answers its count. */
+static uint32_t waits(const ins2651_pair *given, uint32_t unit, uint32_t limit) {
+    ins2651_pair pair = *given, ticked = *given;
+    uint32_t answer = ins2651_joined_wait(&pair, unit, limit);
+    uint32_t count = ticks_until(&ticked, unit == INS2651_UNIT_A ? &ticked.a : &ticked.b, limit);
+    holds(INS2651_WAIT_REFUSAL(answer) == INS2651_DONE, "a wait that is done");
+    holds(INS2651_WAIT_COUNT(answer) == count, "a wait counts the joined ticks that bring a character, or the limit");
+    holds(same_pairs(&pair, &ticked), "a wait is as many joined ticks");
+    return count;
+}
+
+/* Limits at and about the tick that brings a character, from one beginning; any number but 0 names b. */
+static void waits_are_joined_ticks(void) {
+    static const uint32_t units[] = {INS2651_UNIT_A, INS2651_UNIT_B, 2, 65536, UINT32_MAX};
+    int came = 0;
+    for (int m = 0; m < 9; m++) {
+        const ins2651_pair begun = talking(modes[m / 3], modes[m % 3]);
+        for (size_t u = 0; u < sizeof units / sizeof *units; u++) {
+            uint32_t comes = waits(&begun, units[u], INS2651_WAIT_LIMIT);
+            came += comes < INS2651_WAIT_LIMIT;
+            for (uint32_t limit = comes - 1; limit <= comes + 1 && limit <= INS2651_WAIT_LIMIT; limit++) waits(&begun, units[u], limit);
+            holds(waits(&begun, units[u], 1) == 1, "a wait with a limit of 1 that brings none");
+            holds(waits(&begun, units[u], 0) == 0, "a wait with a limit of 0");
+        }
+    }
+    holds(came == 40, "a character comes, but from a tick a bit to 64");
+}
+
+static int unread(ins2651 *device) { return (ins2651_peek(device) & INS2651_STATUS_RXRDY) != 0; }
+
+/* Both characters for b are waited for, while those for a come unread; then none comes. */
+static void characters_are_waited_for(void) {
+    ins2651_pair pair = talking(SIXTEEN, SIXTEEN), before = pair;
+    uint32_t comes = ins2651_joined_wait(&pair, INS2651_UNIT_B, INS2651_WAIT_LIMIT);
+    holds(ins2651_joined_wait(&before, INS2651_UNIT_B, comes - 1) == comes - 1 && !unread(&before.b), "the limit, and none came");
+    holds(ins2651_joined_wait(&before, INS2651_UNIT_B, 1) == 1 && unread(&before.b), "the limit, and one came in the last tick");
+    waits(&pair, INS2651_UNIT_B, INS2651_WAIT_LIMIT);
+    holds(ins2651_joined_wait(&pair, INS2651_UNIT_B, INS2651_WAIT_LIMIT) == 0, "no tick where a character is there");
+    holds(INS2651_VALUE(ins2651_read(&pair.b, INS2651_DATA)) == 21, "the first character for b");
+    holds(ins2651_joined_wait(&pair, INS2651_UNIT_B, INS2651_WAIT_LIMIT) < 1000, "the second one comes");
+    holds(INS2651_VALUE(ins2651_read(&pair.b, INS2651_DATA)) == 200 % 128, "the second character for b");
+    holds(ins2651_joined_wait(&pair, INS2651_UNIT_B, INS2651_WAIT_LIMIT) == INS2651_WAIT_LIMIT, "none comes: the limit is used up");
+    holds(ins2651_joined_wait(&pair, INS2651_UNIT_B, 7) == 7 && !unread(&pair.b), "the limit of a pair that no tick changes");
+    holds(INS2651_VALUE(ins2651_read(&pair.a, INS2651_DATA)) == 97, "the other device has the second of its characters");
+    holds((ins2651_peek(&pair.a) & INS2651_STATUS_OVERRUN) != 0, "the first of two at the other device is overrun");
+}
+
+static void refuses_long_waits(const ins2651_pair *given) {
+    for (size_t i = 0; i < sizeof too_many / sizeof *too_many; i++) {
+        for (uint32_t unit = INS2651_UNIT_A; unit <= INS2651_UNIT_B; unit++) {
+            ins2651_pair pair = *given;
+            uint32_t answer = ins2651_joined_wait(&pair, unit, too_many[i]);
+            holds(INS2651_WAIT_REFUSAL(answer) == INS2651_WAIT_TOO_LONG && INS2651_WAIT_COUNT(answer) == 0, "INS2651_WAIT_TOO_LONG");
+            holds(same_pairs(&pair, given), "a refused wait leaves the pair");
+        }
+    }
+}
+
+/* A wait that is too long is refused whatever it would do: of a pair that moves, that no tick changes, and with a character there. */
+static void refuses_waits(void) {
+    holds(INS2651_WAIT_LIMIT == 65535 && INS2651_WAIT_TOO_LONG == 21, "the limit and the refusal are those of request P12");
+    holds(INS2651_WAIT_REFUSAL((uint32_t)21 * 65536 + 7) == 21 && INS2651_WAIT_COUNT((uint32_t)21 * 65536 + 7) == 7, "an answer taken apart");
+    holds(INS2651_WAIT_REFUSAL(UINT32_MAX) == 65535 && INS2651_WAIT_COUNT(UINT32_MAX) == 65535, "no bit of an answer is lost");
+    ins2651_pair pair = INS2651_PAIR_RESET;
+    refuses_long_waits(&pair);
+    pair = talking(SIXTEEN, A_TICK_A_BIT);
+    refuses_long_waits(&pair);
+    ins2651_joined_run(&pair, INS2651_RUN_LIMIT);
+    refuses_long_waits(&pair);
+}
+
 /* == devices out of range == */
 
 /* The pair with one byte of a device, or of both, out of range: the mode pointer. */
@@ -177,6 +260,19 @@ static void out_of_range(void) {
     holds(ins2651_joined_run(&pair, 1) == INS2651_DONE && same_pairs(&pair, &begun), "a run of 1 on any bytes");
 }
 
+/* A unit out of range holds no character, and is taken as just reset by the first tick of a wait. */
+static void waits_out_of_range(void) {
+    for (int which = 0; which < 4; which++) {
+        ins2651_pair given = spoilt(which & 1, which >> 1);
+        given.b.receiver.unread = 1;
+        refuses_long_waits(&given);
+        for (uint32_t limit = 0; limit < 300; limit++) {
+            waits(&given, INS2651_UNIT_A, limit);
+            waits(&given, INS2651_UNIT_B, limit);
+        }
+    }
+}
+
 /* == what is not lent == */
 
 /* The calls leave what lies before and behind the pair. */
@@ -188,6 +284,8 @@ static void neighbours(void) {
     ins2651_joined_run(&row[1], 700);
     ins2651_joined_tick(&row[1]);
     ins2651_joined_run(&row[1], INS2651_RUN_LIMIT + 1);
+    ins2651_joined_wait(&row[1], INS2651_UNIT_B, INS2651_WAIT_LIMIT);
+    ins2651_joined_wait(&row[1], INS2651_UNIT_B, INS2651_WAIT_LIMIT + 1);
     const unsigned char *after = (const unsigned char *)row;
     holds(memcmp(after, before, sizeof row[0]) == 0, "what lies before the pair stays");
     holds(memcmp(after + 2 * sizeof row[0], before + 2 * sizeof row[0], sizeof row[0]) == 0, "what lies behind the pair stays");
@@ -201,7 +299,11 @@ int main(void) {
     characters_come_in_a_run();
     the_limit();
     refuses_at_rest();
+    waits_are_joined_ticks();
+    characters_are_waited_for();
+    refuses_waits();
     out_of_range();
+    waits_out_of_range();
     neighbours();
     return failures != 0;
 }

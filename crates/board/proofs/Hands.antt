@@ -88,7 +88,7 @@ module _ {M : Type 1} {𝓤 : URA M} {H : Heap 𝓤} {A : Atoms 𝓤} (W : Given
       lft-new ! tt (λ α. move ! (1 ∷ []) $
       use1 W (later (some (λ (δ : GName). ‵ (held (L .b) lies-at (α ∷ []) δ h) ⊛ ‵ (flent (α ∷ []) (Body (mem D.the-row) (L .b) lies-at δ))))) (lends-ref 𝓤 H A W D.the-row (named 0) (α ∷ []) h (L .b) lies-at) $ await ! tt $ pick ! (λ δ. split ! $
       -- [the element lent; what is kept of it; the new lifetime; the others; the open borrow; obs; auth; the pointer; the loan; the reply; the room; the bytes; …]
-      move ! (2 ∷ 0 ∷ 8 ∷ 9 ∷ 11 ∷ []) $ on-loan lent-device w8 W (L .b) lies-at n P h xs le ly ks args α δ at-loan at-reply stand fm known fits (λ fit.
+      move ! (2 ∷ 0 ∷ 8 ∷ 9 ∷ 11 ∷ []) $ on-loan lent-device w8 w16 W (L .b) lies-at n P h xs le ly ks args α δ at-loan at-reply stand fm known fits (λ fit.
       lft-end ! tt $ move ! (0 ∷ 5 ∷ 1 ∷ []) $
       use3 W (later (‵ (mem D.the-row .lies h′ (L .b) lies-at))) (ref-back 𝓤 H A W D.the-row (α ∷ []) δ h′ (L .b) lies-at) $ await ! tt $ fpick ! (λ us. fsplit ! $
       -- [the element; what it owns; the loan; the reply; the bytes; the others; the open borrow; obs; auth; the pointer; the room; …]

@@ -30,7 +30,7 @@ use Rattle.joined_rules.specs.Bench.{wayFrom, Bench}
 use Rattle.joined_rules.specs.Bench as bench
 use Rattle.joined_rules.specs.Demand3.{Settings, Proper, Agree, FromReset, Holds, FreshlySetUp, allAllowed, Right, Seen, Open}
 use Rattle.joined_rules.specs.Demand3 as demand
-use Rattle.joined_rules.proofs.Promised.{one-way-right, demand-3, bench-sees}
+use Rattle.joined_rules.proofs.Promised.{log-moved, one-way-right, demand-3, bench-sees}
 use Rattle.board_rules.specs.declared.Board.{Board}
 use Rattle.board_rules.specs.Ports.{Call, In, Out, Reset, Transmit, Receive, Interrupts, channelOf, selected, inRefusal, roomRefusal, Deed, Refused, Shows, Sets, At, ResetsAll, unless, named, deed}
 use Rattle.board_rules.specs.Runs.{deviceAt, asBits, saidBy, said}
@@ -537,10 +537,6 @@ bench-pair : (e : Bench) (ss : List bench.Step) → bench.runs e ss .pair ≡ be
 bench-pair e [] = refl
 bench-pair e (x ∷ ss) = bench-pair (bench.step e x) ss
 
-way-pair : (s : Side) (e : Logged Pair) (ss : List bench.Step) → one-way.runs (wayFrom s) e ss .bench ≡ bench.allMoved (e .bench) ss
-way-pair s e [] = refl
-way-pair s e (x ∷ ss) = way-pair s (one-way.step (wayFrom s) e x) ss
-
 -- two channels of any boards, any steps us and a joined tick; then any steps xs
 module _ (l : Spots) (w : Boards) (j : Joined l w) (us : List Step) (m : Between) (alone : aloof l m (allMoved l w us) ≡ true) (xs : List Step) where
   abbrev p : Pair
@@ -574,7 +570,7 @@ module _ (l : Spots) (w : Boards) (j : Joined l w) (us : List Step) (m : Between
   channels-end = bench-pair (fresh l w us m) ss ∙ end-is
 
   pub channels-end-one-way : (s : Side) → one-way.runs (wayFrom s) (noLog start) ss .bench ≡ pairOf l (allMoved l w (us ++ Tick m ∷ xs))
-  channels-end-one-way s = way-pair s (noLog start) ss ∙ end-is
+  channels-end-one-way s = log-moved s (noLog start) ss ∙ end-is
 
   -- one way, whatever happens on the other
   module _ (s : Side) where

@@ -5,3 +5,4 @@ pub mod Lists
 pub mod Halves
 pub mod Started
 pub mod Joined
+pub mod Awaited

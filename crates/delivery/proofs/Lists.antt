@@ -16,6 +16,11 @@ and-assoc true b c = refl
 and-assoc false b c = refl
 
 module _ {W X : Type 0} (o : OneWay W X) where
+  -- a run over two lists is a run over the second behind the first
+  pub runs-append : (w : Logged W) (xs ys : List X) → runs o w (xs ++ ys) ≡ runs o (runs o w xs) ys
+  runs-append w [] ys = refl
+  runs-append w (x ∷ xs) ys = runs-append (step o w x) xs ys
+
   -- two lists are allowed, one after the other, exactly where the second one is allowed behind the first
   pub allowed-append : (L : ℕ) (w : Logged W) (xs ys : List X) → allAllowed o L w (xs ++ ys) ≡ (allAllowed o L w xs && allAllowed o L (runs o w xs) ys)
   allowed-append L w [] ys = refl

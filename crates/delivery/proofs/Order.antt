@@ -106,7 +106,7 @@ came-cut : {f : Format} {ys xs : List Entry} → Answered f ys xs → values ys 
 came-cut nothing = refl
 came-cut (one a b) = ap₂ (λ (v : ℕ) (vs : List ℕ). v ∷ vs) (a .value) (came-cut b)
 
-all-fetched : {u : Bool} {ys : List Entry} {vs : List ℕ} → Fetched u ys vs → u ≡ false → vs ≡ values ys
+pub all-fetched : {u : Bool} {ys : List Entry} {vs : List ℕ} → Fetched u ys vs → u ≡ false → vs ≡ values ys
 all-fetched all e = refl
 all-fetched but-one e = absurd (false≢true (sym e))
 

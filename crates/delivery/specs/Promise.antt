@@ -6,6 +6,7 @@ use mathlib.Core.Path.{_≡_}
 use mathlib.Core.Bool.{Bool, true, false}
 use mathlib.Core.List.{List, [], _∷_, _++_, map}
 use lib.Dec.{ltb}
+use lib.ListN.{length}
 use Rattle.line_rules.specs.declared.Format.{Format}
 use Rattle.line_rules.specs.Sending.{cut, frameLength, stopSample}
 use Rattle.link_rules.specs.declared.SenderHalf.{SenderHalf}
@@ -95,3 +96,9 @@ pub record Promised {W X : Type 0} (o : OneWay W X) (f : Format) (w : Logged W) 
 pub record Finished {W X : Type 0} (o : OneWay W X) (f : Format) (w : Logged W) : Type 0 where
   pub passed : latest (w .log .written) + (L f + D f) ≤ w .now
   pub read : o .unread (w .bench) ≡ false
+
+-- == a character still to come: request P12 ==
+
+-- more were written than have come
+abbrev pub Awaited : {W : Type 0} → Logged W → Type 0
+Awaited w = length (w .log .came) < length (w .log .written)

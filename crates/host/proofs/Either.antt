@@ -62,12 +62,12 @@ module _ {M : Type 1} (𝓤 : URA M) (H : Heap 𝓤) (A : Atoms 𝓤) (W : Given
       assigns ! (bin ! (load ! (stands W E 2 (tyInt w8) (ks .0) refl _ _ _ (stop !)) (look ! 0 refl)) (lit ! small) tt) (at-y _ _ _ (stop !)) (init ! 7 refl (tt, tt)) $
       join ! $ join ! $
       early ! (load ! (at-y _ _ _ (stop !)) (look ! 5 refl))
-      (λ test. move ! (11 ∷ 12 ∷ 7 ∷ 3 ∷ 9 ∷ 0 ∷ []) $ again lent-device w8 W κ q b o γ (suc n) P h xs l t a ks at-l (stands W E (suc (suc (past (suc n) 1))) reborrow t (behind (suc n) ks _ 1 reborrow t refl))
+      (λ test. move ! (11 ∷ 12 ∷ 7 ∷ 3 ∷ 9 ∷ 0 ∷ []) $ again lent-device w8 w16 W κ q b o γ (suc n) P h xs l t a ks at-l (stands W E (suc (suc (past (suc n) 1))) reborrow t (behind (suc n) ks _ 1 reborrow t refl))
       at-a stand (fmOf 𝓤 H (W .laws) 𝓣) one fits (λ fit.
       returns-within ! K {r = vint w16 (P .answers h xs)} refl (look ! 4 refl) $ forget ! 4 refl $ forget ! 2 refl $ forget ! 9 refl $
       move ! (4 ∷ 12 ∷ []) $ free1 ! $ move ! (2 ∷ 10 ∷ []) $ free1 ! $ move ! (3 ∷ []) $ free-bytes W (suc n) ks xs (move ! (6 ∷ 7 ∷ []) $ free1 ! $ move ! (2 ∷ 5 ∷ []) $ free1 ! $ move ! (2 ∷ 3 ∷ []) $ free1 ! $ free0 ! $ keep ! (0 ∷ 1 ∷ []) $
       by ! (ends (P .answers h xs) (P .leaves h xs) (divides .is h xs (holds _ test) .0) (divides .is h xs (holds _ test) .1) fit))))
-      (λ test. move ! (11 ∷ 12 ∷ 7 ∷ 1 ∷ 9 ∷ 0 ∷ []) $ again lent-device w8 W κ q b o γ (suc n) R h xs l u a ks at-l (stands W E (suc (suc (past (suc n) 2))) reborrow u (behind (suc n) ks _ 2 reborrow u refl))
+      (λ test. move ! (11 ∷ 12 ∷ 7 ∷ 1 ∷ 9 ∷ 0 ∷ []) $ again lent-device w8 w16 W κ q b o γ (suc n) R h xs l u a ks at-l (stands W E (suc (suc (past (suc n) 2))) reborrow u (behind (suc n) ks _ 2 reborrow u refl))
       at-a stand (fmOf 𝓤 H (W .laws) 𝓣) other fits (λ fit.
       returns ! {r = vint w16 (R .answers h xs)} (look ! 4 refl) $ forget ! 4 refl $ forget ! 2 refl $ forget ! 9 refl $
       move ! (4 ∷ 12 ∷ []) $ free1 ! $ move ! (2 ∷ 10 ∷ []) $ free1 ! $ move ! (3 ∷ []) $ free-bytes W (suc n) ks xs (move ! (6 ∷ 7 ∷ []) $ free1 ! $ move ! (4 ∷ 5 ∷ []) $ free1 ! $ move ! (2 ∷ 3 ∷ []) $ free1 ! $ free0 ! $ keep ! (0 ∷ 1 ∷ []) $

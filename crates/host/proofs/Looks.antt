@@ -67,11 +67,11 @@ module _ {M : Type 1} (𝓤 : URA M) (H : Heap 𝓤) (A : Atoms 𝓤) (W : Given
       let at-m = stands W E 3 (tyInt w16) m refl in
       let at-y = stands W E 5 tyBool y refl in
       move ! (14 ∷ 15 ∷ 10 ∷ 8 ∷ []) $ keeps lent-device W κ q b o γ h l c at-l at-c (λ was.
-      nothing ! $ move ! (1 ∷ 2 ∷ 3 ∷ 9 ∷ 11 ∷ 0 ∷ []) $ again lent-device w8 W κ q b o γ 0 S h tt l t m tt at-l (stands W E 4 reborrow t refl) at-m tt (fmOf 𝓤 H (W .laws) 𝓣) sounds tt (λ _.
+      nothing ! $ move ! (1 ∷ 2 ∷ 3 ∷ 9 ∷ 11 ∷ 0 ∷ []) $ again lent-device w8 w16 W κ q b o γ 0 S h tt l t m tt at-l (stands W E 4 reborrow t refl) at-m tt (fmOf 𝓤 H (W .laws) 𝓣) sounds tt (λ _.
       -- [the device; the token; the reference; its room; the first answer; nothing; the device given; …]
       assigns ! (bin ! (load ! (at-m _ _ _ (stop !)) (look ! 4 refl)) (lit ! tt) tt) (at-y _ _ _ (stop !)) (init ! 9 refl (tt, tt)) $
       early ! (load ! (at-y _ _ _ (stop !)) (look ! 9 refl))
-      (λ test. move ! (0 ∷ 1 ∷ 2 ∷ 7 ∷ 15 ∷ 5 ∷ []) $ again lent-device w8 W κ q b o γ 0 P (S .leaves h tt) tt l u a tt at-l (stands W E 6 reborrow u refl) at-a tt (fmOf 𝓤 H (W .laws) 𝓣) shows tt (λ fit.
+      (λ test. move ! (0 ∷ 1 ∷ 2 ∷ 7 ∷ 15 ∷ 5 ∷ []) $ again lent-device w8 w16 W κ q b o γ 0 P (S .leaves h tt) tt l u a tt at-l (stands W E 6 reborrow u refl) at-a tt (fmOf 𝓤 H (W .laws) 𝓣) shows tt (λ fit.
       returns-within ! K {r = vint w16 (P .answers (S .leaves h tt) tt)} refl (look ! 4 refl) $ forget ! 4 refl $ forget ! 2 refl $ forget ! 7 refl $ forget ! 8 refl $ forget ! 10 refl $
       move ! (4 ∷ 16 ∷ []) $ free1 ! $ move ! (2 ∷ 14 ∷ []) $ free1 ! $ move ! (6 ∷ 12 ∷ []) $ free1 ! $ move ! (5 ∷ 10 ∷ []) $ free1 ! $ move ! (4 ∷ 8 ∷ []) $ free1 ! $ move ! (5 ∷ 6 ∷ []) $ free1 ! $ move ! (2 ∷ 4 ∷ []) $ free1 ! $ free0 ! $ keep ! (0 ∷ 1 ∷ []) $
       by ! (ends (P .answers (S .leaves h tt) tt) (P .leaves (S .leaves h tt) tt) (looks .sound h (holds _ test) .0) (looks .sound h (holds _ test) .1) fit)))

@@ -76,14 +76,14 @@ module _ {M : Type 1} (𝓤 : URA M) (H : Heap 𝓤) (A : Atoms 𝓤) (W : Given
       let at-m = stands W E (suc (suc (past n 2))) (tyInt w16) m (behind n ks _ 2 (tyInt w16) m refl) in
       let at-y = stands W E (suc (suc (past n 5))) tyBool y (behind n ks _ 5 tyBool y refl) in
       move ! (19 ∷ 20 ∷ 15 ∷ 13 ∷ []) $ keeps lent-device W κ q b o γ h l c at-l at-c (λ was.
-      nothing ! $ move ! (1 ∷ 2 ∷ 3 ∷ 10 ∷ 12 ∷ 0 ∷ []) $ again lent-device w8 W κ q b o γ 0 S h tt l t e tt at-l (stands W E (suc (suc (past n 4))) reborrow t (behind n ks _ 4 reborrow t refl))
+      nothing ! $ move ! (1 ∷ 2 ∷ 3 ∷ 10 ∷ 12 ∷ 0 ∷ []) $ again lent-device w8 w16 W κ q b o γ 0 S h tt l t e tt at-l (stands W E (suc (suc (past n 4))) reborrow t (behind n ks _ 4 reborrow t refl))
       (stands W E (suc (suc (past n 3))) (tyInt w16) e (behind n ks _ 3 (tyInt w16) e refl)) tt (fmOf 𝓤 H (W .laws) 𝓣) sounds tt (λ _.
       move ! (0 ∷ 1 ∷ 2 ∷ 16 ∷ []) $ keeps lent-device W κ q b o γ (S .leaves h tt) l s at-l at-s (λ is.
-      move ! (3 ∷ 15 ∷ 8 ∷ []) $ asks lent-device w8 W u16 (tyInt w16) a-number n N (S .leaves h tt) xs s m ks at-s at-m stand (fmOf 𝓤 H (W .laws) 𝓣) refuses is fits (λ v fit.
+      move ! (3 ∷ 15 ∷ 8 ∷ []) $ asks lent-device w8 W u16 (tyInt w16) (a-number w16) n N (S .leaves h tt) xs s m ks at-s at-m stand (fmOf 𝓤 H (W .laws) 𝓣) refuses is fits (λ v fit.
       -- [the sound device; what is refused; the bytes; the device; the token; the reference; …]
       assigns ! (bin ! (load ! (at-m _ _ _ (stop !)) (look ! 1 refl)) (lit ! tt) tt) (at-y _ _ _ (stop !)) (init ! 12 refl (tt, tt)) $
       early ! (load ! (at-y _ _ _ (stop !)) (look ! 12 refl))
-      (λ test. move ! (3 ∷ 4 ∷ 5 ∷ 10 ∷ 20 ∷ 2 ∷ []) $ again lent-device w8 W κ q b o γ n P (S .leaves h tt) xs l u a ks at-l (stands W E (suc (suc (past n 6))) reborrow u (behind n ks _ 6 reborrow u refl))
+      (λ test. move ! (3 ∷ 4 ∷ 5 ∷ 10 ∷ 20 ∷ 2 ∷ []) $ again lent-device w8 w16 W κ q b o γ n P (S .leaves h tt) xs l u a ks at-l (stands W E (suc (suc (past n 6))) reborrow u (behind n ks _ 6 reborrow u refl))
       (stands W E 0 (tyInt w16) a refl) stand (fmOf 𝓤 H (W .laws) 𝓣) acts fits (λ fit′.
       returns-within ! K {r = vint w16 (P .answers (S .leaves h tt) xs)} refl (look ! 4 refl) $ forget ! 4 refl $ forget ! 2 refl $ forget ! 11 refl $ forget ! 6 refl $ forget ! 7 refl $ forget ! 9 refl $ forget ! 13 refl $
       move ! (4 ∷ 21 ∷ []) $ free1 ! $ move ! (2 ∷ 19 ∷ []) $ free1 ! $ move ! (3 ∷ []) $ free-bytes W n ks xs (

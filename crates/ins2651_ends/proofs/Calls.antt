@@ -3,9 +3,9 @@
 use Prim.Native.Nat.{ℕ, zero, suc}
 use native.Mathlib.Omega.{arith}
 use mathlib.Core.Path.{_≡_, refl, sym, ap, ap₂, _∙_}
-use mathlib.Core.Bool.{Bool, true, false, cond, _||_, _&&_, true≢false}
+use mathlib.Core.Bool.{Bool, true, false, cond, _||_, _&&_, true≢false, and-true, and-false}
 use lib.Dec.{eqb, ltb}
-use borrow.Author.Tests.{ltb-true, eqb-true, eqb-false}
+use borrow.Author.Tests.{ltb-true, lt-ltb, eqb-true, eqb-false}
 use Rattle.line_rules.specs.Sending.{bit, on}
 use Rattle.line_rules.proofs.Choice.{either}
 use Rattle.link_rules.specs.declared.SenderHalf.{SenderHalf}
@@ -19,15 +19,16 @@ use Rattle.ins2651_rules.specs.declared.Answer.{Answer}
 use Rattle.ins2651_rules.specs.Shape.{withParts, withRegisters, pinLevels, withEmpty, withChange}
 use Rattle.ins2651_rules.specs.Modes.{has}
 use Rattle.ins2651_rules.specs.Conditions.{transmitEnabled, vacant}
-use Rattle.ins2651_rules.specs.Ranges.{inRange}
+use Rattle.ins2651_rules.specs.Ranges.{inRange, settled}
 use Rattle.ins2651_rules.specs.Refusals.{levelRefusal, writeRefusal}
-use Rattle.ins2651_rules.specs.RegisterReads.{readRegister}
+use Rattle.ins2651_rules.specs.RegisterReads.{readRegister, read}
 use Rattle.ins2651_rules.specs.RegisterWrites.{writeRegister}
 use Rattle.ins2651_rules.specs.Pinning.{pinned}
 use Rattle.ins2651_rules.specs.Status.{statusByte}
 use Rattle.ins2651_rules.specs.Runs.{Call, Reset, Read, Write, SetPins, Transmit, Receive, Outputs, next, byCall, otherwise, atRead, atWrite, atPins, atOutputs}
 use Rattle.ins2651_rules.specs.Rows.{refusal}
 use Rattle.ins2651_rules.specs.History.{reads, writesHolding}
+use Rattle.ins2651_rules.proofs.Settled.{settled-is, settled-out, settled-in}
 use Rattle.ins2651_rules.proofs.Done.{does-read, does-write, does-pins}
 use Rattle.ins2651_rules.proofs.Refused.{read-address}
 use Rattle.ins2651_rules.proofs.Leaves.{SameErrors, withSyns}
@@ -48,6 +49,27 @@ may-write-is d h = bit-is d 1 h ∙ status-bits d .bit0
 -- bit 1 is 1 while RHR holds an unread character
 pub unread-is : (d : Device) → inRange d ≡ true → unread d ≡ on (d .receiver .unread)
 unread-is d h = bit-is d 2 h ∙ status-bits d .bit1
+
+-- .. of any device: what a status read shows is of the device as the call takes it, as it is or just reset
+pub unread-taken : (d : Device) → unread d ≡ on (settled d .receiver .unread)
+unfolding read
+unread-taken d =
+    sym (ap (λ (e : Device). has 2 (readRegister e 1 .value)) (settled-is (settled d) (settled-in d))) ∙ unread-is (settled d) (settled-in d)
+
+-- so one is held by a device in range with its mark set
+pub unread-held : (d : Device) → unread d ≡ (inRange d && on (d .receiver .unread))
+unread-held d = unread-taken d ∙ go (inRange d) refl
+  where
+    go : (b : Bool) → inRange d ≡ b → on (settled d .receiver .unread) ≡ (b && on (d .receiver .unread))
+    go true h = ap (λ (e : Device). on (e .receiver .unread)) (settled-is d h)
+    go false h = ap (λ (e : Device). on (e .receiver .unread)) (settled-out d h)
+
+-- .. by a code's tests: the mark, and where that is set the range
+pub unread-none : (d : Device) → d .receiver .unread ≡ 0 → false ≡ unread d
+unread-none d z = sym (unread-held d ∙ ap (λ (k : ℕ). inRange d && on k) z ∙ and-false (inRange d))
+
+pub unread-some : (d : Device) → (d .receiver .unread ≡ 0 → ⊥) → inRange d ≡ unread d
+unread-some d z = sym (unread-held d ∙ ap (λ (b : Bool). inRange d && b) (lt-ltb 0 (d .receiver .unread) (omega arith)) ∙ and-true (inRange d))
 
 -- a read of address 0 would give what RHR holds
 pub character-is : (d : Device) → inRange d ≡ true → character d ≡ d .receiver .holding

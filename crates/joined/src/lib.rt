@@ -1,23 +1,30 @@
 // Two devices joined by a line: document 01, "Receiving, by receive ticks", on joined ticks.
-// Every call takes any number in any field. A joined tick is never refused; a run of more than 65535 is, with 16, and hands the pair back
-// as given. A device out of range is taken as one just reset, but by a run of 0, which changes nothing.
+// Every call takes any number in any field. A joined tick is never refused; a run of more than 65535 is, with 16, and a wait with a limit
+// above 65535, with 21: both hand the pair back as given. A device out of range is taken as one just reset, but by a run of 0 and a wait that
+// spends none, which change nothing; `unread` and `stands` say no of it.
 ghost use mathlib.Core.Path.{_≡_};
 ghost use mathlib.Core.Bool.{_&&_};
 ghost use Rattle.ins2651_rules.specs.Ranges.{inRange};
 ghost use Rattle.joined_rules.specs.Joining;
 ghost use Rattle.joined_rules.specs.Joining.{settledPair, joinedTick, joinedTicks, ticks};
 ghost use Rattle.joined_rules.specs.TwoWays;
-ghost use Rattle.joined_rules.specs.TwoWays.{endsOf, wayOf, withEnds};
-ghost use Rattle.way_rules.specs.Along.{wayTicks};
+ghost use Rattle.joined_rules.specs.TwoWays.{endsOf, wayOf, withEnds, withWays};
+ghost use Rattle.joined_rules.specs.Waiting;
+ghost use Rattle.joined_rules.specs.Waiting.{waited, waitedOn};
+ghost use Rattle.ins2651_ends.specs.OnALine as chip;
 ghost use Rattle.way_rules.specs.Calm.{wayStands};
+ghost use Rattle.way_rules.specs.Until.{doneUntil};
 use ins2651_rules::Device;
 use ins2651_rules::Flags;
 use ins2651_rules::Ticked;
 use joined_rules::Joined;
 use joined_rules::Pair;
 use joined_rules::Ran;
+use joined_rules::Unit;
+use joined_rules::Waited;
 use way_rules::Ends;
 use way_rules::Faults;
+use way_rules::Moved;
 use way_rules::Way;
 
 fn settle(p: Pair) -> Pair
@@ -96,17 +103,17 @@ fn way_of(a: Device, b: Device) -> Way
     }
 }
 
-// A device after a run of the way that leaves it and of the way that comes.
-fn with_ends(mut d: Device, out: Way, back: Way) -> Device
-    ensures { λ r. ⌜ r ≡ withEnds d out back ⌝ }
+// A device after a run of the way that leaves it and of the way that comes, as they were moved: neither way is copied out.
+fn with_ends(mut d: Device, out: Moved, back: Moved) -> Device
+    ensures { λ r. ⌜ r ≡ withEnds d (out .way) (back .way) ⌝ }
 {
-    let sender = out.sender;
-    let receiver = back.receiver;
+    let sender = out.way.sender;
+    let receiver = back.way.receiver;
     let flags = Flags {
-        framing: back.faults.framing,
-        overrun: back.faults.overrun,
-        parity: back.faults.parity,
-        empty: out.empty,
+        framing: back.way.faults.framing,
+        overrun: back.way.faults.overrun,
+        parity: back.way.faults.parity,
+        empty: out.way.empty,
         change: d.flags.change,
     };
     d.sender = sender;
@@ -115,23 +122,30 @@ fn with_ends(mut d: Device, out: Way, back: Way) -> Device
     d
 }
 
-// n ticks of the way from a to b.
-fn one_way(a: Device, b: Device, n: u16) -> Way
-    ensures { λ r. ⌜ r ≡ wayTicks (endsOf a b) n (wayOf a b) ⌝ }
+// n ticks of the way from a to b; or, where it is watched for, those up to the first after which a character is unread at b.
+fn one_way(a: Device, b: Device, n: u16, watch: bool) -> Moved
+    ensures { λ r. ⌜ r ≡ doneUntil (endsOf a b) watch n (wayOf a b) ⌝ }
 {
-    way::along(way_of(a, b), ends_of(a, b), n)
+    way::along(way_of(a, b), ends_of(a, b), n, watch)
+}
+
+// The pair after a run of the way from a to b and of the way back.
+fn with_ways(p: Pair, there: Moved, back: Moved) -> Pair
+    ensures { λ r. ⌜ r ≡ withWays p (there .way) (back .way) ⌝ }
+{
+    Pair {
+        a: with_ends(p.a, there, back),
+        b: with_ends(p.b, back, there),
+    }
 }
 
 // n joined ticks of a pair in range: n of each way.
 fn ticks_on(p: Pair, n: u16) -> Pair
     ensures { λ r. ⌜ r ≡ joinedTicks n p ⌝ }
 {
-    let there = one_way(p.a, p.b, n);
-    let back = one_way(p.b, p.a, n);
-    Pair {
-        a: with_ends(p.a, there, back),
-        b: with_ends(p.b, back, there),
-    }
+    let there = one_way(p.a, p.b, n, false);
+    let back = one_way(p.b, p.a, n, false);
+    with_ways(p, there, back)
 }
 
 // Whether no tick changes the way from a to b.
@@ -146,7 +160,7 @@ fn way_stands(a: Device, b: Device) -> bool
         & way::receiver_stands(b.receiver, live, !(ready & broken))
 }
 
-// Whether no tick changes the pair, in range on both sides: a host need not store it after a run. The ranges are asked last.
+// Whether no tick changes the pair, in range on both sides: a host need not store it after a run or a wait. The ranges are asked last.
 pub fn stands(p: Pair) -> bool
     ensures { λ r. ⌜ r ≡ TwoWays.stands p ⌝ }
 {
@@ -184,4 +198,85 @@ pub fn run(p: Pair, n: u32) -> Ran
         refusal: 0,
         pair: ticks_from(p, n as u16),
     }
+}
+
+// Whether a device holds an unread character: one that is out of range holds none. The range is asked last.
+fn holds_unread(d: Device) -> bool
+    ensures { λ r. ⌜ r ≡ chip.unread d ⌝ }
+{
+    if d.receiver.unread == 0 {
+        return false;
+    }
+    ins2651::in_range(d)
+}
+
+// Whether a unit does.
+pub fn unread(p: Pair, unit: Unit) -> bool
+    ensures { λ r. ⌜ r ≡ Waiting.unread unit p ⌝ }
+{
+    match unit {
+        Unit::A => holds_unread(p.a),
+        Unit::B => holds_unread(p.b),
+    }
+}
+
+// A wait of a pair in range: the way that comes to the unit is run until a character is unread there, and the other one for as long.
+fn wait_on(p: Pair, unit: Unit, limit: u16) -> Waited
+    ensures { λ r. ⌜ r ≡ waitedOn p unit limit ⌝ }
+{
+    match unit {
+        Unit::A => {
+            let back = one_way(p.b, p.a, limit, true);
+            let there = one_way(p.a, p.b, back.ticks, false);
+            Waited {
+                refusal: 0,
+                count: back.ticks,
+                pair: with_ways(p, there, back),
+            }
+        }
+        Unit::B => {
+            let there = one_way(p.a, p.b, limit, true);
+            let back = one_way(p.b, p.a, there.ticks, false);
+            Waited {
+                refusal: 0,
+                count: there.ticks,
+                pair: with_ways(p, there, back),
+            }
+        }
+    }
+}
+
+// A wait that spends nothing.
+fn unspent(p: Pair, refusal: u8) -> Waited
+    ensures { λ r. ⌜ r ≡ Waiting.unspent p refusal ⌝ }
+{
+    Waited {
+        refusal,
+        count: 0,
+        pair: p,
+    }
+}
+
+// A wait with a limit that is not refused; the ranges are checked once.
+fn wait_up_to(p: Pair, unit: Unit, limit: u16) -> Waited
+    ensures { λ r. ⌜ r ≡ waited p unit limit ⌝ }
+{
+    let none = unread(p, unit) | (limit == 0);
+    if none {
+        return unspent(p, 0);
+    }
+    if sound(p) {
+        return wait_on(p, unit, limit);
+    }
+    wait_on(settle(p), unit, limit)
+}
+
+// Joined ticks until a unit holds an unread character, or the limit is used up; 21 where that is above 65535.
+pub fn wait(p: Pair, unit: Unit, limit: u32) -> Waited
+    ensures { λ r. ⌜ r ≡ Waiting.wait p unit limit ⌝ }
+{
+    if 65535 < limit {
+        return unspent(p, 21);
+    }
+    wait_up_to(p, unit, limit as u16)
 }

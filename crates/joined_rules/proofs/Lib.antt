@@ -9,3 +9,6 @@ pub mod Concrete
 pub mod TwoWays
 pub mod RunsRefused
 pub mod Standing
+pub mod Waits
+pub mod WaitsInTime
+pub mod WaitsComputed

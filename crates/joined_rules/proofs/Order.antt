@@ -22,11 +22,11 @@ use Rattle.joined_rules.proofs.SetUps.{set-up-puts, set-up-gets}
 use Rattle.joined_rules.proofs.Promised.{one-way-right, is-open, ok-each, sends-is}
 
 -- with the reset that each has had
-abbrev resetting : List Step → List Step
+abbrev pub resetting : List Step → List Step
 resetting us = At A Reset ∷ At B Reset ∷ us
 
 module _ (us : List Step) (quiet : Quiet us) where
-  from-reset : FromReset (resetting us)
+  pub from-reset : FromReset (resetting us)
   from-reset = record { calls = quiet .calls; a-reset = rw (quiet .a-quiet); b-reset = rw (quiet .b-quiet) }
 
   abbrev set : Pair
@@ -55,7 +55,7 @@ module _ (us : List Step) (quiet : Quiet us) where
   -- both at once
   module _ (a b : Settings) (pa : Proper a) (pb : Proper b) (agree : Agree a b) (a-holds : Holds a (set .a)) (b-holds : Holds b (set .b)) (ss : List Step)
       (ok : allAllowed a b (fresh justReset us) ss ≡ true) where
-    up : FreshlySetUp a b justReset (resetting us)
+    pub up : FreshlySetUp a b justReset (resetting us)
     up = record { from-reset = from-reset; a-holds = a-holds; b-holds = b-holds }
 
     pub run-in-order : (s : Side) → InOrder (sends (settingsAt a b s)) (Finished (wayFrom s) (sends (settingsAt a b s)) (one-way.runs (wayFrom s) (noLog (tick set .pair)) ss)) (gets (wayFrom s) justReset (us ++ Tick ∷ ss)) (puts (wayFrom s) justReset (us ++ Tick ∷ ss))

@@ -169,6 +169,11 @@ prefix-allowed a b w (s ∷ ss) ts h =
     let p = both (allowed a b w s) (allAllowed a b (step w s) (ss ++ ts)) h in
     all (p .0) (prefix-allowed a b (step w s) ss ts (p .1))
 
+-- the bench of a way's log after steps
+pub log-moved : (s : Side) (w : Logged Pair) (xs : List Step) → one-way.runs (wayFrom s) w xs .bench ≡ allMoved (w .bench) xs
+log-moved s w [] = refl
+log-moved s w (x ∷ xs) = log-moved s (one-way.step (wayFrom s) w x) xs
+
 -- n steps that are ticks are the run of n
 pub ticks-are-the-run : (n : ℕ) (p : Pair) → allMoved p (replicate n Tick) ≡ ticks n p
 ticks-are-the-run zero p = refl

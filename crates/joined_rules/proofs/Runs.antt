@@ -42,6 +42,10 @@ joined-in p h =
       b = received-in (transmitTick (p .b) .device) (on (transmitTick (p .a) .level)) (transmitted-in (p .b) (h .b));
     }
 
+pub joined-ticks-in : (n : ℕ) (p : Pair) → BothIn p → BothIn (joinedTicks n p)
+joined-ticks-in zero p h = h
+joined-ticks-in (suc n) p h = joined-ticks-in n (joinedTick p .pair) (joined-in p h)
+
 -- == one tick ==
 
 -- one end of the joined tick, by the chip's calls and on devices in range

@@ -1,16 +1,18 @@
--- A struct that can be lent, and one that replies a number and such a struct: what a walk needs of them, whatever fields the lent one has.
+-- A struct that can be lent, and one that replies a number and such a struct: what a walk needs of them, whatever fields the lent one has and however wide
+-- the number is.
 -- Assumes nothing.
 use mathlib.Core.Path.{_≡_}
 use Prim.Native.Nat.{ℕ, _<_, _^_}
 use mathlib.Core.List.{[], _∷_, List}
-use mir.Syntax.{Sym, Ty, tyRef, named, mut}
-use mir.Val.{Val, vptr}
+use mir.Syntax.{Width, Sym, Ty, tyRef, named, mut}
+use mir.Val.{Val, vint, vptr, bits}
 use base.Fml.{GName, Lft, Fml}
 use denote.RattleType.{RattleType, Denots}
 use denote.Laws.{Is}
+use denote.Plain.{uint-tells, uint-lawful}
 use denote.Memory.{pointee}
 use denote.Ref.{RefT, MutRef}
-use denote.Struct.Field.{Field, rows, u16-field}
+use denote.Struct.Field.{Field, rows, uint-field}
 use denote.Struct.Declared.{Declared, fields, shape, row, field}
 use denote.Struct.Struct.{layout, Plains}
 use denote.Struct.Laws as LL
@@ -52,26 +54,32 @@ module _ (T : Lendable) where
 
   -- == a reply: its answer, and then the value ==
 
-  abbrev pub replied : List Field
-  replied = u16-field ∷ field (T .type) ∷ []
+  module _ (w : Width) where
+    abbrev pub replied : List Field
+    replied = uint-field w ∷ field (T .type) ∷ []
 
-  abbrev pub reply-of : ℕ → Value → Denots (rows replied)
-  reply-of answer d = (answer, (T .type .to d, tt))
+    abbrev pub reply-of : ℕ → Value → Denots (rows replied)
+    reply-of answer d = (answer, (T .type .to d, tt))
 
--- a struct of these two fields: it is one to one with them
+-- a struct of these two fields, the answer of the width `wide`: it is one to one with them
 pub record Replying (T : Lendable) : Type 2 where
   pub name : Sym
+  pub wide : Width
   pub Reply : Type 0
   pub answer : Reply → ℕ
   pub value : Reply → Value T
-  pub told-apart : (x y : Reply) → reply-of T (answer x) (value x) ≡ reply-of T (answer y) (value y) → x ≡ y
+  pub told-apart : (x y : Reply) → reply-of T wide (answer x) (value x) ≡ reply-of T wide (answer y) (value y) → x ≡ y
+
+-- the laws of a number as a field, of any width: the library has them by name for each
+abbrev number-laws : (w : Width) → LL.FLaws (uint-field w)
+number-laws w = record { val = vint w; tells = uint-tells w; low = vint w; low-is = uint-tells w; lawful = λ 𝓤 H A W. uint-lawful 𝓤 H A W w }
 
 module _ (T : Lendable) (R : Replying T) where
   abbrev pub reply-type : Declared
-  reply-type = record { name = R .name; args = []; parts = replied T; D = R .Reply; to = λ r. reply-of T (R .answer r) (R .value r); to-one = R .told-apart }
+  reply-type = record { name = R .name; args = []; parts = replied T (R .wide); D = R .Reply; to = λ r. reply-of T (R .wide) (R .answer r) (R .value r); to-one = R .told-apart }
 
   abbrev pub reply-laws : LL.Laws reply-type
-  reply-laws = (LL.u16-laws, (LL.field-laws (T .type) (T .laws) (T .lowers), tt))
+  reply-laws = (number-laws (R .wide), (LL.field-laws (T .type) (T .laws) (T .lowers), tt))
 
   abbrev pub reply-row : RattleType
   reply-row = row reply-type
@@ -81,7 +89,7 @@ module _ (T : Lendable) (R : Replying T) where
 
   -- of a reply that is owned: its answer fits, and its value is one
   abbrev Parts : R .Reply → Type 0
-  Parts r = (R .answer r < 2 ^ 16) × Is (row-of T) (R .value r) (vals T (R .value r))
+  Parts r = (R .answer r < 2 ^ bits (R .wide)) × Is (row-of T) (R .value r) (vals T (R .value r))
 
   pub parts : (r : R .Reply) (vs : List Val) → Is reply-row r vs → Parts r
   parts r vs is = let all = LL.owed reply-type reply-laws r vs is in (all .0 .1, all .1 .0)

@@ -1,17 +1,26 @@
 // A pair of joined devices lent to a C host: each call finds it, advances it in place and answers one number.
-// Whatever bytes the host lends, the call is what `joined_rules` says of them; a refused run hands them back as they were. For speed a
-// run that would leave the pair as it is stores nothing.
+// Whatever bytes the host lends, the call is what `joined_rules` says of them; a refused run or wait hands them back as they were. For
+// speed a run or a wait that would leave the pair as it is stores nothing.
 ghost use mathlib.Core.Path.{_≡_};
 ghost use denote.Ref.{now};
 ghost use Rattle.joined_rules.specs.Joining;
+ghost use Rattle.joined_rules.specs.Waiting;
 ghost use Rattle.pair_host.specs.Replies;
-ghost use Rattle.pair_host.specs.Replies.{levelsSent};
+ghost use Rattle.pair_host.specs.Replies.{levelsSent, unitOf, waitAnswer};
 use joined_rules::Pair;
+use joined_rules::Unit;
 
 // An act by value: its answer as one number, and the pair after it.
 #[repr(C)]
 pub struct PairReply {
     pub answer: u16,
+    pub pair: Pair,
+}
+
+// A wait by value: its refusal and count as one number, and the pair after it.
+#[repr(C)]
+pub struct WaitReply {
+    pub answer: u32,
     pub pair: Pair,
 }
 
@@ -53,6 +62,62 @@ fn run_in_place(p: &mut Pair, n: u32) -> u16
     reply.answer
 }
 
+// The unit that a number names from C.
+fn unit_of(unit: u32) -> Unit
+    ensures { λ r. ⌜ r ≡ unitOf unit ⌝ }
+{
+    if unit == 0 {
+        return Unit::A;
+    }
+    Unit::B
+}
+
+fn wait(p: Pair, unit: u32, limit: u32) -> WaitReply
+    ensures { λ r. ⌜ r ≡ Replies.wait p unit limit ⌝ }
+{
+    let w = joined::wait(p, unit_of(unit), limit);
+    let pair = w.pair;
+    WaitReply {
+        answer: w.refusal as u32 * 65536 + w.count as u32,
+        pair: pair,
+    }
+}
+
+// Whether a wait leaves the pair as it is: it is refused or has nothing to wait for, or the pair stands. That is asked last, as it takes
+// longest.
+fn wait_spared(p: Pair, unit: u32, limit: u32) -> bool
+    ensures { λ r. ⌜ r ≡ Replies.waitSpared p unit limit ⌝ }
+{
+    let none = (65535 < limit) | (limit == 0) | joined::unread(p, unit_of(unit));
+    if none {
+        return true;
+    }
+    joined::stands(p)
+}
+
+// What a wait that leaves the pair as it is answers.
+fn wait_told(p: Pair, unit: u32, limit: u32) -> u32
+    ensures { λ r. ⌜ r ≡ Replies.waitTold p unit limit ⌝ }
+{
+    if 65535 < limit {
+        return 21 * 65536;
+    }
+    let there = joined::unread(p, unit_of(unit));
+    if there {
+        return 0;
+    }
+    limit
+}
+
+fn wait_in_place(p: &mut Pair, unit: u32, limit: u32) -> u32
+    ensures { λ r. ⌜ (r ≡ waitAnswer (Waiting.wait (now (p .entry)) (unitOf unit) limit)) × (now (p .exit) ≡ Waiting.wait (now (p .entry)) (unitOf unit) limit .pair) ⌝ }
+{
+    let before = *p;
+    let reply = wait(before, unit, limit);
+    *p = reply.pair;
+    reply.answer
+}
+
 // A joined tick; answers the levels sent: 1 where `a` sent a 1, plus 2 where `b` did.
 #[no_mangle]
 pub extern "C" fn ins2651_joined_tick(p: &mut Pair) -> u16
@@ -75,4 +140,18 @@ pub extern "C" fn ins2651_joined_run(p: &mut Pair, n: u32) -> u16
         return 0;
     }
     run_in_place(p, n)
+}
+
+// Joined ticks until a unit holds an unread character, or the limit is used up; answers 65536 times its refusal plus their count. A pair
+// that stays as it is, is not stored.
+#[no_mangle]
+pub extern "C" fn ins2651_joined_wait(p: &mut Pair, unit: u32, limit: u32) -> u32
+    ensures { λ r. ⌜ (r ≡ waitAnswer (Waiting.wait (now (p .entry)) (unitOf unit) limit)) × (now (p .exit) ≡ Waiting.wait (now (p .entry)) (unitOf unit) limit .pair) ⌝ }
+{
+    let before = *p;
+    let still = wait_spared(before, unit, limit);
+    if still {
+        return wait_told(before, unit, limit);
+    }
+    wait_in_place(p, unit, limit)
 }

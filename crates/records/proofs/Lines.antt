@@ -1,4 +1,4 @@
--- Lines and the records that they are, computed: each letter of document 01, "The session text", each field at its limit and above it.
+-- Lines and the records that they are, computed: each letter of document 01, "The session text", and request P12's, each field at its limit and above it.
 -- Assumes nothing.
 use Prim.Native.Nat.{ℕ}
 use Prim.Native.Char.{code}
@@ -7,7 +7,7 @@ use mathlib.Core.List.{List, [], _∷_, map}
 use Rattle.fields.specs.Ascii.{bytes}
 use Rattle.fields.specs.Parted.{fieldOf, fieldsOf}
 use Rattle.records.specs.declared.Record.{Record}
-use Rattle.records.specs.declared.Record.the-variants.{Write, Read, Pins, Reset, Ticks, Shapeless}
+use Rattle.records.specs.declared.Record.the-variants.{Write, Read, Pins, Reset, Ticks, Wait, Shapeless}
 use Rattle.records.specs.Records.{two, three, four, five, recordOf}
 
 pub record Row : Type 0 where
@@ -38,6 +38,15 @@ table =
     ∷ row (bytes "L\t00007") (Ticks 7)
     ∷ row (bytes "L\t000007") Shapeless
     ∷ row (bytes "L\t") Shapeless
+    ∷ row (bytes "B\tA\t99999") (Wait (code "A") 99999)
+    ∷ row (bytes "B\tA\t100000") Shapeless
+    ∷ row (bytes "B\tA\t65535") (Wait (code "A") 65535)
+    ∷ row (bytes "B\tA\t65536") (Wait (code "A") 65536)
+    ∷ row (bytes "B\tB\t00007") (Wait (code "B") 7)
+    ∷ row (bytes "B\tC\t5") Shapeless
+    ∷ row (bytes "B\ta\t5") Shapeless
+    ∷ row (bytes "B\tA\t") Shapeless
+    ∷ row (bytes "B\tA") Shapeless
     ∷ row (bytes "Z A") Shapeless
     ∷ []
 

@@ -16,7 +16,7 @@ use Rattle.fields.specs.Parted.{parts, onFirst, noNumber, numeral, numberOf, le
 use Rattle.fields.proofs.Gathered.{onto, onto-first, onto-none}
 use Rattle.fields.proofs.Numerals.{length-numeral, reads-numeral, number-is}
 use Rattle.records.specs.declared.Record.{Record}
-use Rattle.records.specs.declared.Record.the-variants.{Write, Read, Pins, Reset, Ticks, Shapeless}
+use Rattle.records.specs.declared.Record.the-variants.{Write, Read, Pins, Reset, Ticks, Wait, Shapeless}
 use Rattle.rows.specs.Text.{digits, decimal, tabbed}
 use Rattle.records.specs.Records.{aUnit, isUnit, upTo, two, three, four, five, recordOf}
 use Rattle.records.specs.Printed.{Column, Letter, Number, columns, proper, Prints, nothing, a-letter, a-number, Printed, field, print}
@@ -73,12 +73,12 @@ lettered [] b e h = absurd (omega arith)
 lettered (x ∷ []) b e h = rw e (a-letter nothing)
 lettered (x ∷ y ∷ ys) b e h = absurd (omega arith)
 
-numbered : (limit : ℕ) (l : List ℕ) → leb limit 65535 ≡ true → upTo limit (fieldOf l) ≡ true → Prints (Number (numberOf l % suc limit) ∷ []) (l ∷ [])
+numbered : (limit : ℕ) (l : List ℕ) → leb limit 99999 ≡ true → upTo limit (fieldOf l) ≡ true → Prints (Number (numberOf l % suc limit) ∷ []) (l ∷ [])
 unfolding fieldOf
 numbered limit l small e =
     let t = both (leb (min (length l) 10) 5) (leb (numberOf l) limit) e in
     let low : numberOf l ≤ limit = leb-true _ _ (t .1) in
-    let n = number-is l (lt-ltb (numberOf l) noNumber (omega (arith, leb-true limit 65535 small))) in
+    let n = number-is l (lt-ltb (numberOf l) noNumber (omega (arith, leb-true limit 99999 small))) in
     subst (λ (f : List ℕ). Prints (Number (numberOf l % suc limit) ∷ []) (f ∷ [])) (sym (n .text))
     (rw (mod-eq-of-lt {n = numberOf l} {m = suc limit} (omega arith)) (a-number (length l) (n .some) (omega (arith, leb-true)) (n .within) nothing))
 
@@ -96,7 +96,7 @@ module _ {t p : Bool} {cs : List Column} {fs : List (List ℕ)} (before : t ≡ 
       (all (h .0) (s .1), join (h .1) (lettered l _ refl (omega (arith, unit-is (letterOf l) (s .1)))))
 
   value :
-      (limit : ℕ) → leb limit 65535 ≡ true → (t && upTo limit (fieldOf l)) ≡ true
+      (limit : ℕ) → leb limit 99999 ≡ true → (t && upTo limit (fieldOf l)) ≡ true
       → Held (p && leb (fieldOf l .number % suc limit) limit) (cs ++ Number (fieldOf l .number % suc limit) ∷ []) (fs ++ l ∷ [])
   unfolding fieldOf
   value limit small e =
@@ -121,7 +121,7 @@ unfolding two three four five
 fields-printed [] = unknown
 fields-printed (k ∷ []) = unknown
 fields-printed (k ∷ u ∷ []) = choose _ (unit (kind 90 k refl) u) (choose _ (value (kind 76 k refl) u 65535 refl) unknown)
-fields-printed (k ∷ u ∷ a ∷ []) = choose _ (value (unit (kind 82 k refl) u) a 255 refl) unknown
+fields-printed (k ∷ u ∷ a ∷ []) = choose _ (value (unit (kind 82 k refl) u) a 255 refl) (choose _ (value (unit (kind 66 k refl) u) a 99999 refl) unknown)
 fields-printed (k ∷ u ∷ a ∷ v ∷ []) = choose _ (value (value (unit (kind 87 k refl) u) a 255 refl) v 255 refl) unknown
 fields-printed (k ∷ u ∷ a ∷ b ∷ v ∷ []) = choose _ (value (value (value (unit (kind 80 k refl) u) a 255 refl) b 255 refl) v 255 refl) unknown
 fields-printed (k ∷ u ∷ a ∷ b ∷ v ∷ w ∷ ws) = unknown
@@ -133,9 +133,13 @@ reads-printed line = subst (λ (x : List ℕ). Known x (recordOf (fieldsOf line)
 
 -- == what is printed is read ==
 
--- what a test says, and that the number tested behind it is a byte
+-- what a test says, and that the number tested behind it is within the limit
+within : {t : Bool} {X : Type 0} (limit n : ℕ) → (t ≡ true → X) → (t && leb n limit) ≡ true → X × (n % suc limit ≡ n)
+within {t} limit n before e = let s = both t (leb n limit) e in (before (s .0), mod-eq-of-lt {n = n} {m = suc limit} (omega (arith, leb-true n limit (s .1))))
+
+-- .. a byte
 bounded : {t : Bool} {X : Type 0} (n : ℕ) → (t ≡ true → X) → (t && leb n 255) ≡ true → X × (n % 256 ≡ n)
-bounded {t} n before e = let s = both t (leb n 255) e in (before (s .0), omega (arith, leb-true n 255 (s .1)))
+bounded = within 255
 
 -- a letter, and a number of 1 to 5 digits
 letter-read : (b : ℕ) → fieldOf (b ∷ []) .letter ≡ b
@@ -166,6 +170,9 @@ record-read (Reset u) w (a-letter (a-letter nothing)) = let b = unit-is u w in r
 record-read (Ticks n) w (a-letter (a-number k p q h nothing)) =
     let b = mod-eq-of-lt {n = n} {m = 65536} (omega (arith, leb-true n 65535 w)) in
     rw (parts-numeral k n _) (simp (append-nil, letter-read, size-read, number-read, w) cc)
+record-read (Wait u n) w (a-letter (a-letter (a-number k p q h nothing))) =
+    let b = within 99999 n (unit-is u) w in
+    rw (ne-eqb u 9 (λ e. omega arith), parts-numeral k n _) (simp (append-nil, letter-read, size-read, number-read, w) cc)
 record-read Shapeless w p = absurd (false≢true w)
 
 -- a record, printed, is read
@@ -185,7 +192,7 @@ digits-fit (suc k) (suc m) n h g =
     each (Fits (suc (suc m)) n) (ltb n 10) (λ e. (omega arith, omega arith, ltb-true n 10 e))
     (λ e. let t = digits-fit k m (n / 10) (omega arith) (omega arith) in rw (length-append, add-one) (omega arith, omega arith, omega arith))
 
-decimal-before : {cs : List Column} {fs : List (List ℕ)} (n : ℕ) → n ≤ 65535 → Prints cs fs → Prints (Number n ∷ cs) (decimal n ∷ fs)
+decimal-before : {cs : List Column} {fs : List (List ℕ)} (n : ℕ) → n ≤ 99999 → Prints cs fs → Prints (Number n ∷ cs) (decimal n ∷ fs)
 unfolding decimal
 decimal-before n h rest = let t = digits-fit 9 4 n (omega arith) (omega arith) in rw (decimal-numeral n) (a-number (length (decimal n)) (t .0) (t .1) (t .2) rest)
 
@@ -198,7 +205,8 @@ prints-columns (Pins u a b c) w =
     let s = bounded c (bounded b (bounded a (unit-is u))) w in
     a-letter (a-letter (decimal-before a (omega arith) (decimal-before b (omega arith) (decimal-before c (omega arith) nothing))))
 prints-columns (Reset u) w = a-letter (a-letter nothing)
-prints-columns (Ticks n) w = a-letter (decimal-before n (leb-true n 65535 w) nothing)
+prints-columns (Ticks n) w = a-letter (decimal-before n (omega (arith, leb-true n 65535 w)) nothing)
+prints-columns (Wait u n) w = let b = within 99999 n (unit-is u) w in a-letter (a-letter (decimal-before n (omega arith) nothing))
 prints-columns Shapeless w = nothing
 
 -- the printer prints
@@ -232,6 +240,7 @@ columns-few (Read u a) = omega arith
 columns-few (Pins u a b c) = omega arith
 columns-few (Reset u) = omega arith
 columns-few (Ticks n) = omega arith
+columns-few (Wait u n) = omega arith
 columns-few Shapeless = omega arith
 
 pub printed-short : {r : Record} {line : List ℕ} → Printed r line → length line ≤ 30

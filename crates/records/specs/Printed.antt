@@ -8,7 +8,7 @@ use mathlib.Core.List.{List, [], _∷_, map}
 use lib.Dec.{leb}
 use Rattle.fields.specs.Parted.{numeral}
 use Rattle.records.specs.declared.Record.{Record}
-use Rattle.records.specs.declared.Record.the-variants.{Write, Read, Pins, Reset, Ticks, Shapeless}
+use Rattle.records.specs.declared.Record.the-variants.{Write, Read, Pins, Reset, Ticks, Wait, Shapeless}
 use Rattle.records.specs.Records.{aUnit}
 use Rattle.rows.specs.Text.{decimal, letter, tabbed}
 
@@ -17,22 +17,24 @@ pub data Column : Type 0 where
   Letter : ℕ → Column
   Number : ℕ → Column
 
--- document 01's letter, unit and values for each case; a line of no known shape has none
+-- document 01's letter, unit and values for each case, and request P12's; a line of no known shape has none
 abbrev pub columns : Record → List Column
 columns (Write unit address v) = Letter (code "W") ∷ Letter unit ∷ Number address ∷ Number v ∷ []
 columns (Read unit address) = Letter (code "R") ∷ Letter unit ∷ Number address ∷ []
 columns (Pins unit dsr dcd cts) = Letter (code "P") ∷ Letter unit ∷ Number dsr ∷ Number dcd ∷ Number cts ∷ []
 columns (Reset unit) = Letter (code "Z") ∷ Letter unit ∷ []
 columns (Ticks count) = Letter (code "L") ∷ Number count ∷ []
+columns (Wait unit limit) = Letter (code "B") ∷ Letter unit ∷ Number limit ∷ []
 columns Shapeless = []
 
--- a count is up to 65535, all else up to 255
+-- a count is up to 65535, a limit up to 99999, all else up to 255
 abbrev pub proper : Record → Bool
 proper (Write unit address v) = aUnit unit && leb address 255 && leb v 255
 proper (Read unit address) = aUnit unit && leb address 255
 proper (Pins unit dsr dcd cts) = aUnit unit && leb dsr 255 && leb dcd 255 && leb cts 255
 proper (Reset unit) = aUnit unit
 proper (Ticks count) = leb count 65535
+proper (Wait unit limit) = aUnit unit && leb limit 99999
 proper Shapeless = false
 
 -- these fields are those columns: a number has 1 to 5 digits, leading zeros among them

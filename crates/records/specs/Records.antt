@@ -1,4 +1,4 @@
--- The records of a session: document 01, "The session text". A line's fields make a record or have no known shape.
+-- The records of a session: document 01, "The session text", and request P12's wait. A line's fields make a record or have no known shape.
 -- Assumes nothing.
 use Prim.Native.Nat.{ℕ, _%_}
 use Prim.Native.Char.{code}
@@ -8,7 +8,7 @@ use lib.Dec.{eqb, leb}
 use Rattle.fields.specs.declared.Field.{Field}
 use Rattle.fields.specs.declared.Fields.{Fields}
 use Rattle.records.specs.declared.Record.{Record}
-use Rattle.records.specs.declared.Record.the-variants.{Write, Read, Pins, Reset, Ticks, Shapeless}
+use Rattle.records.specs.declared.Record.the-variants.{Write, Read, Pins, Reset, Ticks, Wait, Shapeless}
 
 -- Unit is A or B
 abbrev pub aUnit : ℕ → Bool
@@ -21,20 +21,25 @@ isUnit f = aUnit (f .letter)
 abbrev pub upTo : ℕ → Field → Bool
 upTo limit f = leb (f .size) 5 && leb (f .number) limit
 
--- the number of a field up to 255, and of one up to 65535
+-- the number of a field up to 255, of one up to 65535, and of a limit, which has any five digits (request P12)
 abbrev pub byteOf : Field → ℕ
 byteOf f = f .number % 256
 
 abbrev pub countOf : Field → ℕ
 countOf f = f .number % 65536
 
+abbrev pub limitOf : Field → ℕ
+limitOf f = f .number % 100000
+
 -- Z unit; L count
 unfoldable pub two : Field → Field → Record
 two k u = cond (eqb (k .letter) (code "Z") && isUnit u) (Reset (u .letter)) (cond (eqb (k .letter) (code "L") && upTo 65535 u) (Ticks (countOf u)) Shapeless)
 
--- R unit addr
+-- R unit addr; B unit limit
 unfoldable pub three : Field → Field → Field → Record
-three k u a = cond (eqb (k .letter) (code "R") && isUnit u && upTo 255 a) (Read (u .letter) (byteOf a)) Shapeless
+three k u a =
+    cond (eqb (k .letter) (code "R") && isUnit u && upTo 255 a) (Read (u .letter) (byteOf a))
+    (cond (eqb (k .letter) (code "B") && isUnit u && upTo 99999 a) (Wait (u .letter) (limitOf a)) Shapeless)
 
 -- W unit addr value
 unfoldable pub four : Field → Field → Field → Field → Record

@@ -1,4 +1,4 @@
-// The records of a session: document 01, "The session text". A line's fields make a record, or have no known shape.
+// The records of a session: document 01, "The session text", and request P12's wait. A line's fields make a record, or have no known shape.
 ghost use mathlib.Core.Path.{_≡_};
 ghost use Rattle.records.specs.Records;
 use fields::Field;
@@ -11,6 +11,7 @@ pub enum Record {
     Pins(u8, u8, u8, u8),
     Reset(u8),
     Ticks(u16),
+    Wait(u8, u32),
     Shapeless,
 }
 
@@ -40,6 +41,13 @@ fn count_of(f: Field) -> u16
     (f.number % 65536) as u16
 }
 
+// A limit has any five digits.
+fn limit_of(f: Field) -> u32
+    ensures { λ r. ⌜ r ≡ Records.limitOf f ⌝ }
+{
+    f.number % 100000
+}
+
 // Z unit; L count.
 fn two(k: Field, u: Field) -> Record
     ensures { λ r. ⌜ r ≡ Records.two k u ⌝ }
@@ -55,13 +63,18 @@ fn two(k: Field, u: Field) -> Record
     Record::Shapeless
 }
 
-// R unit addr.
+// R unit addr; B unit limit.
 fn three(k: Field, u: Field, a: Field) -> Record
     ensures { λ r. ⌜ r ≡ Records.three k u a ⌝ }
 {
-    let known = (k.letter == b'R') & is_unit(u) & up_to(255, a);
-    if known {
+    let unit = is_unit(u);
+    let reads = (k.letter == b'R') & unit & up_to(255, a);
+    if reads {
         return Record::Read(u.letter, byte_of(a));
+    }
+    let waits = (k.letter == b'B') & unit & up_to(99999, a);
+    if waits {
+        return Record::Wait(u.letter, limit_of(a));
     }
     Record::Shapeless
 }

@@ -12,8 +12,8 @@ use lib.ListN.{length, length-append, getD}
 use Rattle.line_rules.proofs.Choice.{each}
 use Rattle.fields.specs.Parted.{numeral}
 use Rattle.rows.specs.declared.Row.{Row}
-use Rattle.rows.specs.declared.Row.the-variants.{Nothing, Value, Refusal, Counts}
-use Rattle.rows.specs.Text.{glyph, digits, decimal, numbers, valueText, refusalText, countsText, rowText}
+use Rattle.rows.specs.declared.Row.the-variants.{Nothing, Value, Waited, Refusal, Counts}
+use Rattle.rows.specs.Text.{glyph, digits, decimal, numbers, valueText, waitText, refusalText, countsText, rowText}
 
 more : (xs : List ℕ) (x : ℕ) → length (xs ++ x ∷ []) ≡ suc (length xs)
 more xs x = length-append xs (x ∷ []) ∙ omega arith
@@ -46,9 +46,10 @@ numbers-short m n = simp length-append (omega (arith, decimal-short m, decimal-s
 
 -- no line is longer than the room that is asked for it
 pub row-short : (r : Row) → length (rowText r) ≤ 32
-unfolding rowText valueText refusalText countsText
+unfolding rowText valueText waitText refusalText countsText
 row-short Nothing = omega arith
 row-short (Value unit address v) = omega (arith, numbers-short address v)
+row-short (Waited unit count) = simp length-append (omega (arith, decimal-short count))
 row-short (Refusal line n) = omega (arith, numbers-short line n)
 row-short (Counts lines refusals) = omega (arith, numbers-short lines refusals)
 

@@ -1,4 +1,4 @@
--- The text of the output: document 01, "The session text". Fields are parted by one tab, and numbers are decimal without leading zeros.
+-- The text of the output: document 01, "The session text", and request P12's wait. Fields are parted by one tab, and numbers are decimal without leading zeros.
 -- Assumes nothing.
 use Prim.Native.Nat.{ℕ, zero, suc, _+_, _/_, _%_, _≤_}
 use Prim.Native.Char.{code}
@@ -9,7 +9,7 @@ use lib.Dec.{ltb, leb}
 use lib.ListN.{length, take, drop}
 use lib.Seq.{sets}
 use Rattle.rows.specs.declared.Row.{Row}
-use Rattle.rows.specs.declared.Row.the-variants.{Nothing, Value, Refusal, Counts}
+use Rattle.rows.specs.declared.Row.the-variants.{Nothing, Value, Waited, Refusal, Counts}
 
 -- == numbers ==
 
@@ -42,6 +42,10 @@ row fields = tabbed fields (code "\n" ∷ [])
 abbrev pub letter : ℕ → List ℕ
 letter b = b ∷ []
 
+-- the letter and the unit that begin a line
+abbrev pub letters : ℕ → ℕ → List ℕ
+letters kind unit = kind ∷ code "\t" ∷ unit ∷ []
+
 -- the two numbers that end a line, each behind its tab
 abbrev pub numbers : ℕ → ℕ → List ℕ
 numbers m n = code "\t" ∷ (decimal m ++ code "\t" ∷ (decimal n ++ code "\n" ∷ []))
@@ -54,14 +58,19 @@ refusalText line n = row (letter (code "E") ∷ decimal line ∷ decimal n ∷ [
 unfoldable pub valueText : ℕ → ℕ → ℕ → List ℕ
 valueText unit address v = row (letter (code "R") ∷ letter unit ∷ decimal address ∷ decimal v ∷ [])
 
+-- B, unit, count: request P12
+unfoldable pub waitText : ℕ → ℕ → List ℕ
+waitText unit count = row (letter (code "B") ∷ letter unit ∷ decimal count ∷ [])
+
 -- N, lines taken, refusals
 unfoldable pub countsText : ℕ → ℕ → List ℕ
 countsText lines refusals = row (letter (code "N") ∷ decimal lines ∷ decimal refusals ∷ [])
 
--- document 01's letter and values for each case
+-- document 01's letter and values for each case, and request P12's
 unfoldable pub rowText : Row → List ℕ
 rowText Nothing = []
 rowText (Value unit address v) = valueText unit address v
+rowText (Waited unit count) = waitText unit count
 rowText (Refusal line n) = refusalText line n
 rowText (Counts lines refusals) = countsText lines refusals
 

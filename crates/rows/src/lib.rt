@@ -1,4 +1,4 @@
-// Lines of a session's output: document 01, "The session text". Fields are parted by one tab, and numbers are decimal
+// Lines of a session's output: document 01, "The session text", and request P12's wait. Fields are parted by one tab, and numbers are decimal
 // without leading zeros.
 ghost use mathlib.Core.Path.{_≡_};
 ghost use mathlib.Core.List.{[], _∷_};
@@ -8,10 +8,12 @@ ghost use lib.ListN.{length};
 ghost use Rattle.rows.specs.Text;
 ghost use Rattle.rows.specs.Text.{Put};
 
-// A line of the output: none, R with unit, address and value, E with line number and refusal, N with lines and refusals.
+// A line of the output: none, R with unit, address and value, B with unit and count (request P12), E with line number and
+// refusal, N with lines and refusals.
 pub enum Row {
     Nothing,
     Value(u8, u8, u8),
+    Waited(u8, u16),
     Refusal(u16, u8),
     Counts(u16, u16),
 }
@@ -61,6 +63,16 @@ fn numbers(out: &mut [u8], at: usize, m: u32, n: u32) -> usize
     put(out, f, b'\n')
 }
 
+// The letter and the unit that begin a line.
+fn letters(out: &mut [u8], at: usize, kind: u8, unit: u8) -> usize
+    requires { ⌜ at + 3 ≤ length (now out) ⌝ }
+    ensures { λ r. ⌜ Put (now (out .entry)) at (Text.letters kind unit) (now (out .exit)) r ⌝ }
+{
+    let e = put(out, at, kind);
+    let f = put(out, e, b'\t');
+    put(out, f, unit)
+}
+
 fn wide(n: u16) -> u32
     ensures { λ r. ⌜ r ≡ n ⌝ }
 {
@@ -89,10 +101,18 @@ fn say_value(out: &mut [u8], at: usize, unit: u8, address: u8, v: u8) -> usize
 {
     let m = wide_byte(address);
     let n = wide_byte(v);
-    let e = put(out, at, b'R');
-    let f = put(out, e, b'\t');
-    let g = put(out, f, unit);
-    numbers(out, g, m, n)
+    let e = letters(out, at, b'R', unit);
+    numbers(out, e, m, n)
+}
+
+fn say_wait(out: &mut [u8], at: usize, unit: u8, count: u16) -> usize
+    requires { ⌜ at + 32 ≤ length (now out) ⌝ }
+    ensures { λ r. ⌜ Put (now (out .entry)) at (Text.waitText unit count) (now (out .exit)) r ⌝ }
+{
+    let n = wide(count);
+    let e = letters(out, at, b'B', unit);
+    let f = field(out, e, n);
+    put(out, f, b'\n')
 }
 
 fn say_counts(out: &mut [u8], at: usize, lines: u16, refusals: u16) -> usize
@@ -112,6 +132,7 @@ fn say(out: &mut [u8], at: usize, row: Row) -> usize
     match row {
         Row::Nothing => at,
         Row::Value(unit, address, v) => say_value(out, at, unit, address, v),
+        Row::Waited(unit, count) => say_wait(out, at, unit, count),
         Row::Refusal(line, n) => say_refusal(out, at, line, n),
         Row::Counts(lines, refusals) => say_counts(out, at, lines, refusals),
     }

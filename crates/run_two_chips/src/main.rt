@@ -1,5 +1,6 @@
 // Two chips joined, to copy: a character goes from unit a to unit b. README.md shows these lines from `use` on.
 use joined_rules::Pair;
+use joined_rules::Unit;
 use libc::STDOUT_FILENO;
 
 fn main() {
@@ -9,7 +10,7 @@ fn main() {
     let marked = joined::run(Pair { a: chip, b: chip }, 1).pair; // a tick of mark comes first
     let a = ins2651::write(marked.a, 0, 65).device; // a character to send
     let b = marked.b;
-    let sent = joined::run(Pair { a, b }, 10).pair; // it takes 1+D joined ticks
+    let sent = joined::wait(Pair { a, b }, Unit::B, 65535).pair; // until it has come: 1+D joined ticks
     let got = ins2651::read(sent.b, 0);
     io::print_decimal(STDOUT_FILENO, got.value as u64); // 65
     io::write_all(STDOUT_FILENO, b"\n");

@@ -1,4 +1,4 @@
-// A session: document 01, "The session text", over two joined devices. The input comes in pieces of any size: `begin`,
+// A session: document 01, "The session text", and request P12, over two joined devices. The input comes in pieces of any size: `begin`,
 // `feed` for each piece, `finish`. Every call takes any number in any field, and none is refused: a refused line is
 // answered in the text.
 ghost use mathlib.Core.Path.{_≡_};
@@ -10,6 +10,7 @@ ghost use Rattle.session_rules.specs.Bytes;
 use ins2651_rules::Device;
 use ins2651_rules::Outcome;
 use joined_rules::Pair;
+use joined_rules::Unit;
 use records::Record;
 use rows::Row;
 use session_rules::Reply;
@@ -42,6 +43,15 @@ fn device_of(p: Pair, unit: u8) -> Device
     p.b
 }
 
+fn unit_of(unit: u8) -> Unit
+    ensures { λ r. ⌜ r ≡ Calls.unitOf unit ⌝ }
+{
+    if unit == b'A' {
+        return Unit::A;
+    }
+    Unit::B
+}
+
 fn put_back(p: Pair, unit: u8, d: Device) -> Pair
     ensures { λ r. ⌜ r ≡ Calls.putBack p unit d ⌝ }
 {
@@ -61,6 +71,7 @@ fn number(said: Said) -> u8
     match said {
         Said::Nothing => 0,
         Said::Value(_, _, _) => 0,
+        Said::Waited(_, _) => 0,
         Said::Refusal(n) => n,
     }
 }
@@ -124,6 +135,18 @@ fn ticking(p: Pair, count: u16) -> Reply
     }
 }
 
+// Joined ticks until a unit holds an unread character, or as many as the limit has; it says how many.
+fn waiting(p: Pair, unit: u8, limit: u32) -> Reply
+    ensures { λ r. ⌜ r ≡ Calls.waiting p unit limit ⌝ }
+{
+    let w = joined::wait(p, unit_of(unit), limit);
+    let pair = w.pair;
+    Reply {
+        pair,
+        said: verdict(w.refusal, Said::Waited(unit, w.count)),
+    }
+}
+
 // What a record does. A line that has none's shape is refusal 6.
 fn obey(p: Pair, r: Record) -> Reply
     ensures { λ a. ⌜ a ≡ Calls.obey p r ⌝ }
@@ -142,6 +165,7 @@ fn obey(p: Pair, r: Record) -> Reply
         }
         Record::Reset(unit) => replied(p, unit, ins2651::reset(), Said::Nothing),
         Record::Ticks(count) => ticking(p, count),
+        Record::Wait(unit, limit) => waiting(p, unit, limit),
         Record::Shapeless => refused(p, 6),
     }
 }
@@ -155,6 +179,7 @@ fn row_of(line: u16, said: Said) -> Row
     match said {
         Said::Nothing => Row::Nothing,
         Said::Value(unit, address, v) => Row::Value(unit, address, v),
+        Said::Waited(unit, count) => Row::Waited(unit, count),
         Said::Refusal(n) => Row::Refusal(line, n),
     }
 }

@@ -21,20 +21,21 @@ use Rattle.delivery.specs.Joined.{Side, A, B, other}
 use Rattle.joined_rules.specs.declared.Pair.{Pair}
 use Rattle.joined_rules.specs.Bench.{deviceAt, Step, Tick, At, moved, allMoved, justReset, deedFrom, wayFrom}
 use Rattle.joined_rules.specs.Demand3.{Settings, settingsAt, Proper, sends, Agree}
+use Rattle.joined_rules.specs.Waiting.{wait}
 use Rattle.joined_rules.proofs.Order.{one-way-in-order, run-in-order}
 use Rattle.records.specs.declared.Record.{Record}
-use Rattle.records.specs.declared.Record.the-variants.{Write, Read, Pins, Reset, Shapeless}
+use Rattle.records.specs.declared.Record.the-variants.{Write, Read, Pins, Reset, Wait, Shapeless}
 use Rattle.records.specs.declared.Record.the-variants as record-of
 use Rattle.records.specs.Records.{aUnit, recordOf}
 use Rattle.records.specs.Printed.{proper}
 use Rattle.records.proofs.Parser.{reads-printed}
 use Rattle.rows.specs.Text.{rowText, valueText}
 use Rattle.session_rules.specs.declared.Said.{Said}
-use Rattle.session_rules.specs.Calls.{obey, lineReply, saidText}
+use Rattle.session_rules.specs.Calls.{unitOf, obey, lineReply, saidText}
 use Rattle.session_rules.specs.Rows.{overlong, shapeless}
 use Rattle.session_rules.specs.Steps.{side, recordSteps, lineSteps, allSteps}
 use Rattle.session_rules.specs.Whole.{answers, lineTexts}
-use Rattle.session_rules.specs.Delivered.{Meets, formatFrom, MeetsFrom, unitOf, isRead, fetches, fetching, marked, printed, Shows, Delivers}
+use Rattle.session_rules.specs.Delivered.{Meets, formatFrom, MeetsFrom, letterAt, isRead, fetches, fetching, marked, printed, Shows, Delivers}
 use Rattle.session_rules.proofs.Lines.{line-moves}
 
 -- == one line ==
@@ -84,20 +85,20 @@ gets-none u c Reads h = absurd (false≢true (sym h))
 gets-none u c Passes h = refl
 
 -- a read of address 0 prints what the device holds
-read-said : (s : Side) (n : ℕ) (p : Pair) → saidText n (obey p (Read (unitOf s) 0) .said) ≡ valueText (unitOf s) 0 (character (deviceAt s p))
+read-said : (s : Side) (n : ℕ) (p : Pair) → saidText n (obey p (Read (letterAt s) 0) .said) ≡ valueText (letterAt s) 0 (character (deviceAt s p))
 unfolding obey saidText rowText read readRegister
 read-said A n p = refl
 read-said B n p = refl
 
 -- a read on the way from this side is one of address 0 at the other
-at-read : (s : Side) (p : Pair) (unit address : ℕ) → aUnit unit ≡ true → isRead (deedFrom s p (At (side unit) (chip.Read address))) ≡ true → (unit ≡ unitOf (other s)) × (address ≡ 0)
+at-read : (s : Side) (p : Pair) (unit address : ℕ) → aUnit unit ≡ true → isRead (deedFrom s p (At (side unit) (chip.Read address))) ≡ true → (unit ≡ letterAt (other s)) × (address ≡ 0)
 at-read s p unit address h r = by-unit s (eqb unit 65) refl r
   where
     zero-is : (t : Bool) → eqb address 0 ≡ t → isRead (cond t Reads Passes) ≡ true → address ≡ 0
     zero-is true e q = eqb-true address 0 e
     zero-is false e q = absurd (false≢true q)
 
-    by-unit : (s : Side) (t : Bool) → eqb unit 65 ≡ t → isRead (deedFrom s p (At (side unit) (chip.Read address))) ≡ true → (unit ≡ unitOf (other s)) × (address ≡ 0)
+    by-unit : (s : Side) (t : Bool) → eqb unit 65 ≡ t → isRead (deedFrom s p (At (side unit) (chip.Read address))) ≡ true → (unit ≡ letterAt (other s)) × (address ≡ 0)
     by-unit A true e q = absurd (false≢true (rw e at q))
     by-unit A false e q = (eqb-true unit 66 (rw e at h), zero-is (eqb address 0) refl (rw e at q))
     by-unit B true e q = (eqb-true unit 65 e, zero-is (eqb address 0) refl (rw e at q))
@@ -112,7 +113,7 @@ no-read B B p c h = either (λ (k : Deed). isRead k ≡ false) (writesHolding c)
 
 module _ (s : Side) (n : ℕ) (p : Pair) (rest : List (List ℕ)) where
   abbrev unit : ℕ
-  unit = unitOf (other s)
+  unit = letterAt (other s)
 
   -- what is printed for these steps of a line that says so
   abbrev Prints : List Step → Said → Type 0
@@ -128,11 +129,11 @@ module _ (s : Side) (n : ℕ) (p : Pair) (rest : List (List ℕ)) where
   ticks-print zero said = refl
   ticks-print (suc k) said = side-prints s
     where
-      side-prints : (s : Side) → cond (fetches s p (Tick ∷ replicate k Tick)) (saidText n said ∷ rest) rest ≡ map (valueText (unitOf (other s)) 0) (gets (wayFrom s) p (replicate (suc k) Tick)) ++ rest
+      side-prints : (s : Side) → cond (fetches s p (Tick ∷ replicate k Tick)) (saidText n said ∷ rest) rest ≡ map (valueText (letterAt (other s)) 0) (gets (wayFrom s) p (replicate (suc k) Tick)) ++ rest
       side-prints A = rw (ticks-get A k (moved p Tick))
       side-prints B = rw (ticks-get B k (moved p Tick))
 
-  record-prints : (r : Record) → (shapeless r ≡ false → proper r ≡ true) → Prints (recordSteps r) (obey p r .said)
+  record-prints : (r : Record) → (shapeless r ≡ false → proper r ≡ true) → Prints (recordSteps p r) (obey p r .said)
   record-prints (Write u address v) h = silent (side u) (chip.Write address v) (obey p (Write u address v) .said) refl
   record-prints (Read u address) h =
       one-step unit (character (deviceAt (other s) p)) (deedFrom s p (At (side u) (chip.Read address))) (unread (deviceAt (other s) p))
@@ -142,9 +143,10 @@ module _ (s : Side) (n : ℕ) (p : Pair) (rest : List (List ℕ)) where
   record-prints (Pins u dsr dcd cts) h = silent (side u) (chip.SetPins dsr dcd cts) (obey p (Pins u dsr dcd cts) .said) refl
   record-prints (Reset u) h = silent (side u) chip.Reset (obey p (Reset u) .said) refl
   record-prints (record-of.Ticks count) h = ticks-print count (obey p (record-of.Ticks count) .said)
+  record-prints (Wait u limit) h = ticks-print (wait p (unitOf u) limit .count) (obey p (Wait u limit) .said)
   record-prints Shapeless h = refl
 
-  line-prints : (l : List ℕ) → Prints (lineSteps l) (lineReply p l .said)
+  line-prints : (l : List ℕ) → Prints (lineSteps p l) (lineReply p l .said)
   unfolding lineReply
   line-prints l = go (overlong l) refl
     where
@@ -154,7 +156,7 @@ module _ (s : Side) (n : ℕ) (p : Pair) (rest : List (List ℕ)) where
       known : shapeless r ≡ false → proper r ≡ true
       known e = reads-printed l (λ z. false≢true (sym e ∙ ap shapeless z)) .within
 
-      go : (t : Bool) → overlong l ≡ t → Prints (lineSteps l) (lineReply p l .said)
+      go : (t : Bool) → overlong l ≡ t → Prints (lineSteps p l) (lineReply p l .said)
       go true e = rw e
       go false e = rw e (record-prints r known)
 
@@ -165,27 +167,27 @@ marked-first true bs x xs = refl
 marked-first false bs x xs = refl
 
 prints-gets : (s : Side) (n : ℕ) (p : Pair) (ls : List (List ℕ))
-    → marked (fetching s p ls) (lineTexts n (answers p ls)) ≡ map (valueText (unitOf (other s)) 0) (gets (wayFrom s) p (allSteps ls))
+    → marked (fetching s p ls) (lineTexts n (answers p ls)) ≡ map (valueText (letterAt (other s)) 0) (gets (wayFrom s) p (allSteps p ls))
 prints-gets s n p [] = refl
 prints-gets s n p (l ∷ ls) =
     let after : Pair = lineReply p l .pair in
     let rest : List (List ℕ) = marked (fetching s after ls) (lineTexts (suc n) (answers after ls)) in
-    let here : List ℕ = gets (wayFrom s) p (lineSteps l) in
-    let later : List ℕ = gets (wayFrom s) (allMoved p (lineSteps l)) (allSteps ls) in
-    marked-first (fetches s p (lineSteps l)) (fetching s after ls) (saidText n (lineReply p l .said)) (lineTexts (suc n) (answers after ls))
+    let here : List ℕ = gets (wayFrom s) p (lineSteps p l) in
+    let later : List ℕ = gets (wayFrom s) (allMoved p (lineSteps p l)) (allSteps after ls) in
+    marked-first (fetches s p (lineSteps p l)) (fetching s after ls) (saidText n (lineReply p l .said)) (lineTexts (suc n) (answers after ls))
     ∙ line-prints s n p rest l
-    ∙ ap (λ (ts : List (List ℕ)). map (valueText (unitOf (other s)) 0) here ++ ts)
-    (prints-gets s (suc n) after ls ∙ ap (λ (q : Pair). map (valueText (unitOf (other s)) 0) (gets (wayFrom s) q (allSteps ls))) (sym (line-moves p l)))
-    ∙ sym (map-append (valueText (unitOf (other s)) 0) here later)
-    ∙ ap (map (valueText (unitOf (other s)) 0)) (sym (gets-append s p (lineSteps l) (allSteps ls)))
+    ∙ ap (λ (ts : List (List ℕ)). map (valueText (letterAt (other s)) 0) here ++ ts)
+    (prints-gets s (suc n) after ls ∙ ap (λ (q : Pair). map (valueText (letterAt (other s)) 0) (gets (wayFrom s) q (allSteps after ls))) (sym (line-moves p l)))
+    ∙ sym (map-append (valueText (letterAt (other s)) 0) here later)
+    ∙ ap (map (valueText (letterAt (other s)) 0)) (sym (gets-append s p (lineSteps p l) (allSteps after ls)))
 
 -- what is read in order is shown in order
-shows : (s : Side) (f : Format) {finished : Type 0} (lines : List (List ℕ)) {xs : List Step} → allSteps lines ≡ xs
+shows : (s : Side) (f : Format) {finished : Type 0} (lines : List (List ℕ)) {xs : List Step} → allSteps justReset lines ≡ xs
     → InOrder f finished (gets (wayFrom s) justReset xs) (puts (wayFrom s) justReset xs)
-    → Shows f finished (unitOf (other s)) (printed s lines) (puts (wayFrom s) justReset (allSteps lines))
+    → Shows f finished (letterAt (other s)) (printed s lines) (puts (wayFrom s) justReset (allSteps justReset lines))
 shows s f {finished} lines e h =
     record {
-      values = gets (wayFrom s) justReset (allSteps lines);
+      values = gets (wayFrom s) justReset (allSteps justReset lines);
       shown = prints-gets s 1 justReset lines;
       in-order = subst (λ (ys : List Step). InOrder f finished (gets (wayFrom s) justReset ys) (puts (wayFrom s) justReset ys)) (sym e) h;
     }

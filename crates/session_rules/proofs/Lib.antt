@@ -4,4 +4,6 @@ pub mod Pieces
 pub mod Lines
 pub mod Shapes
 pub mod Delivered
+pub mod TextWaits
 pub mod Concrete
+pub mod ConcreteWaits

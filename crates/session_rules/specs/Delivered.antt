@@ -1,7 +1,7 @@
 -- Demand 3 from a session's text: lines that set both units up, a joined tick, then lines of allowed steps. What the session prints for the
--- reads of address 0 made while bit 1 was 1 are the values written, cut, in order.
+-- reads of address 0 made while bit 1 was 1 are the values written, cut, in order; and a wait behind them stops in time (request P12).
 -- Assumes nothing.
-use Prim.Native.Nat.{ℕ}
+use Prim.Native.Nat.{ℕ, _+_, _≤_}
 use Prim.Native.Char.{code}
 use mathlib.Core.Path.{_≡_}
 use mathlib.Core.Bool.{Bool, true, false, _&&_}
@@ -10,27 +10,32 @@ use Rattle.line_rules.specs.declared.Format.{Format}
 use Rattle.line_rules.specs.Sending.{frameLength}
 use Rattle.ins2651_rules.specs.Modes.{sendFormat}
 use Rattle.ins2651_ends.specs.OnALine.{unread}
-use Rattle.delivery.specs.OneWay.{Deed, Ticks, Writes, Reads, Passes, noLog, puts}
+use Rattle.delivery.specs.OneWay.{Deed, Ticks, Writes, Reads, Passes, Logged, noLog, puts}
 use Rattle.delivery.specs.OneWay as one-way
-use Rattle.delivery.specs.Promise.{InOrder, Finished}
+use Rattle.delivery.specs.Promise.{L, D, InOrder, Finished, Awaited}
 use Rattle.delivery.specs.Joined.{Side, A, B, other}
 use Rattle.joined_rules.specs.declared.Pair.{Pair}
 use Rattle.joined_rules.specs.Joining.{tick}
 use Rattle.joined_rules.specs.Bench.{deviceAt, Step, Tick, allMoved, justReset, deedFrom, wayFrom}
-use Rattle.joined_rules.specs.Demand3.{Settings, sends, Quiet, Holds, fresh, allAllowed, Open}
-use Rattle.rows.specs.Text.{valueText}
-use Rattle.session_rules.specs.Calls.{lineReply}
+use Rattle.joined_rules.specs.Demand3.{Settings, Quiet, Holds, fresh, allAllowed, Open}
+use Rattle.joined_rules.specs.declared.Unit.{Unit}
+use Rattle.joined_rules.specs.declared.Waited.{Waited}
+use Rattle.joined_rules.specs.Waiting.{sideOf, StopsInTime}
+use Rattle.records.specs.declared.Record.the-variants.{Wait}
+use Rattle.records.specs.Printed.{Printed}
+use Rattle.rows.specs.Text.{valueText, waitText}
+use Rattle.session_rules.specs.Calls.{lineReply, saidText}
 use Rattle.session_rules.specs.Whole.{answers, lineTexts}
-use Rattle.session_rules.specs.Steps.{lineSteps, allSteps}
+use Rattle.session_rules.specs.Steps.{lineSteps, allSteps, pairAfter}
 
 -- == the premises ==
 
 -- both units begin as after reset. The steps of the lines are those of a set-up (no tick, no write of address 0, in any order), one joined tick,
--- and others. A line that is refused for itself is no step; a line of joined ticks may begin with that one
+-- and others. A line that is refused for itself is no step, nor is a wait that is refused; a line of joined ticks, or a wait, may begin with that one
 pub record Parted (lines : List (List ℕ)) : Type 0 where
   pub set-up : List Step
   pub after : List Step
-  pub steps : allSteps lines ≡ set-up ++ Tick ∷ after
+  pub steps : allSteps justReset lines ≡ set-up ++ Tick ∷ after
   pub quiet : Quiet set-up
 
 -- the two units after the one joined tick
@@ -56,9 +61,10 @@ pub record MeetsFrom (s : Side) (lines : List (List ℕ)) : Type 0 where
 
 -- == what is printed ==
 
-abbrev pub unitOf : Side → ℕ
-unitOf A = code "A"
-unitOf B = code "B"
+-- the letter of the unit at a side
+abbrev pub letterAt : Side → ℕ
+letterAt A = code "A"
+letterAt B = code "B"
 
 abbrev pub isRead : Deed → Bool
 isRead Ticks = false
@@ -74,7 +80,7 @@ fetches s p (x ∷ xs) = isRead (deedFrom s p x) && unread (deviceAt (other s) p
 -- which lines do so, in turn
 abbrev pub fetching : Side → Pair → List (List ℕ) → List Bool
 fetching s p [] = []
-fetching s p (l ∷ ls) = fetches s p (lineSteps l) ∷ fetching s (lineReply p l .pair) ls
+fetching s p (l ∷ ls) = fetches s p (lineSteps p l) ∷ fetching s (lineReply p l .pair) ls
 
 -- those that are marked
 abbrev pub marked : {X : Type 0} → List Bool → List X → List X
@@ -95,9 +101,28 @@ pub record Shows (f : Format) (finished : Type 0) (unit : ℕ) (texts : List (Li
   pub shown : texts ≡ map (valueText unit 0) values
   pub in-order : InOrder f finished values written
 
+-- the run behind the lines, on the way from this side
+abbrev pub end : {lines : List (List ℕ)} → Side → Parted lines → Logged Pair
+end s l = one-way.runs (wayFrom s) (noLog (start l)) (l .after)
+
 -- from the side s, which sends in the format f: the texts are of the other unit, and the values those that the lines write at s. The run is finished
 -- where L+D joined ticks have passed since the last of these, and bit 1 of the other unit is 0
 abbrev pub Delivers : {lines : List (List ℕ)} → Side → Format → Parted lines → Type 0
 Delivers {lines} s f l =
-    Shows f (Finished (wayFrom s) f (one-way.runs (wayFrom s) (noLog (start l)) (l .after))) (unitOf (other s)) (printed s lines)
-    (puts (wayFrom s) justReset (allSteps lines))
+    Shows f (Finished (wayFrom s) f (end s l)) (letterAt (other s)) (printed s lines)
+    (puts (wayFrom s) justReset (allSteps justReset lines))
+
+-- == a wait: request P12 ==
+
+-- a line for this unit, which prints this text and leaves these two: it shows a wait's count, `B`, unit and count, and that wait stopped in time
+pub record ShowsInTime (f : Format) (u : Unit) (text : List ℕ) (after : Pair) : Type 0 where
+  pub waited : Waited
+  pub shown : text ≡ waitText (letterAt (sideOf u)) (waited .count)
+  pub left : after ≡ waited .pair
+  pub stops : StopsInTime f u waited
+
+-- a line behind these that is a wait for the unit, with a limit that is enough, where a character is still to come by the log
+abbrev pub TextStops : Format → Unit → List (List ℕ) → Logged Pair → Type 0
+TextStops f u lines w =
+    Awaited w → (limit : ℕ) (line : List ℕ) → Printed (Wait (letterAt (sideOf u)) limit) line → L f + D f ≤ limit → limit ≤ 65535
+    → (n : ℕ) → let r = lineReply (pairAfter justReset lines) line in ShowsInTime f u (saidText n (r .said)) (r .pair)

@@ -1,13 +1,15 @@
-// A session by document 01, "The session text": what is said of a line, and the session between two bytes. specs/ says what an input answers,
+// A session by document 01, "The session text", and request P12: what is said of a line, and the session between two bytes. specs/ says what an input answers,
 // proofs/ what that comes to; the calls themselves are `session`'s. No code stands here, so that a wrong definition is refused without
 // proving the calls again.
 use fields::Fields;
 use joined_rules::Pair;
 
-// What is said of a line: nothing where it is done, unit, address and value of a read, or the number of its refusal.
+// What is said of a line: nothing where it is done, unit, address and value of a read, unit and count of a wait, or the number
+// of its refusal.
 pub enum Said {
     Nothing,
     Value(u8, u8, u8),
+    Waited(u8, u16),
     Refusal(u8),
 }
 

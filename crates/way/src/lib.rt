@@ -11,6 +11,7 @@ ghost use Rattle.link_rules.specs.Transmitting.{frameTick, beginTick};
 ghost use Rattle.way_rules.specs.Parts.{withoutFrame, withMark, resting, assembled, tuned};
 ghost use Rattle.way_rules.specs.Along.{sent, received, sentBy, heardBy, heardAs, wayTick, wayTicks};
 ghost use Rattle.way_rules.specs.Calm;
+ghost use Rattle.way_rules.specs.Until.{unread, doneUntil};
 ghost use Rattle.way_rules.specs.Leap.{lastLook, soFar, sameBits, bothBusy, inStep, flyAt, leapTicks, looksAhead, leapLooks, doneAtOnce, Narrow, Leaps};
 ghost use Rattle.way_rules.specs.Calm.{placesLeft, senderLevel, senderCalm, bitLeft, senderKeeps, senderSkipped, heardCalm, wayCalm, waySkipped, senderStands, receiverStands};
 use line_rules::Format;
@@ -617,9 +618,9 @@ fn leapt(mut w: Way, q: u16, k: u16) -> Way
     w
 }
 
-// Many ticks at once, of so many at most: to the last look of a frame that is followed, or those that only count.
+// Many ticks at once, of so many at most: to the last look of a frame that is followed, or those that only count. No character comes in them.
 fn advance(e: Ends, w: Way, room: u16) -> Moved
-    ensures { λ r. ⌜ r ≡ doneAtOnce e w room ⌝ }
+    ensures { λ r. ⌜ (r ≡ doneAtOnce e w room) × (unread (r .way) ≡ unread w) ⌝ }
 {
     let q = leap_looks(e, w, room);
     if 0 < q {
@@ -636,17 +637,21 @@ fn advance(e: Ends, w: Way, room: u16) -> Moved
     }
 }
 
-// n ticks: those that pass at once, then one by itself, and so on.
-pub fn along(w: Way, e: Ends, n: u16) -> Way
-    ensures { λ r. ⌜ r ≡ wayTicks e n w ⌝ }
+// n ticks, or where it is watched for only those up to the first after which a character is unread: those that pass at once, then one by
+// itself, and so on. (One loop for both, as a function that is called at two places is not put into its callers.)
+pub fn along(w: Way, e: Ends, n: u16, watch: bool) -> Moved
+    ensures { λ r. ⌜ r ≡ doneUntil e watch n w ⌝ }
 {
     let mut way = w;
     let mut left = n;
-    while 0 < left {
+    while (0 < left) & !(watch & (0 < way.receiver.unread)) {
         let m = advance(e, way, left - 1);
         let moved = m.way;
         way = tick(moved, e);
         left = left - m.ticks - 1;
     }
-    way
+    Moved {
+        way: way,
+        ticks: n - left,
+    }
 }

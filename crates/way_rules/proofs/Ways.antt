@@ -3,7 +3,7 @@
 use Prim.Native.Nat.{ℕ, zero, suc, _+_, _-_, _≤_, _<_}
 use native.Mathlib.Nat.{zero-add, suc-add}
 use native.Mathlib.Omega.{arith}
-use mathlib.Core.Path.{_≡_, refl, ap, ap₂, sym, _∙_}
+use mathlib.Core.Path.{_≡_, ap, ap₂, sym, _∙_}
 use mathlib.Core.Bool.{Bool, true, _&&_}
 use Rattle.line_rules.specs.Sending.{orSet}
 use borrow.Author.Tests.{ne-eqb}
@@ -87,17 +87,8 @@ pub rests-calm : (e : Ends) (w : Way) → e .live ≡ true → (w .receiver .sta
 unfolding receiverCalm
 rests-calm e w l p c = rw (l, ne-eqb _ _ p, c)
 
--- == the loop ==
+-- == one after another ==
 
 pub ticks-add : (e : Ends) (k n : ℕ) (w : Way) → wayTicks e (k + n) w ≡ wayTicks e n (wayTicks e k w)
 ticks-add e zero n w = rw zero-add
 ticks-add e (suc k) n w = rw suc-add (ticks-add e k n (wayTick e w))
-
--- a turn does k ticks and one more
-pub turn-less : (e : Ends) (k n : ℕ) (w : Way) → k < n → wayTicks e n w ≡ wayTicks e (n - k - 1) (wayTick e (wayTicks e k w))
-turn-less e k n w h =
-    ap (λ (m : ℕ). wayTicks e m w) (let q : n ≡ k + suc (n - k - 1) = omega arith in q) ∙ ticks-add e k (suc (n - k - 1)) w
-
-pub none-left : (e : Ends) (k : ℕ) (w : Way) → k ≤ 0 → wayTicks e k w ≡ w
-none-left e zero w h = refl
-none-left e (suc k) w h = absurd (omega arith)

@@ -1,5 +1,5 @@
 // One way of a line, by document 01, "Sending" and "Receiving": the sending half at one end and the receiving half at the other. specs/ says
-// what a tick of it does, which ticks only count and how far a frame can be followed at once; proofs/ that what is done at once is what as many
+// what a tick of it does, how many bring a character, which ticks only count and how far a frame can be followed at once; proofs/ that what is done at once is what as many
 // ticks do. The calls themselves are `way`'s. No code stands here, so that a wrong definition is refused without proving the calls again.
 use line_rules::Format;
 use link_rules::ReceiverHalf;

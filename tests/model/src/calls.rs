@@ -204,6 +204,14 @@ impl Lent {
         }
     }
 
+    /// Whether it holds an unread character; one out of range holds none.
+    pub fn holds_unread(&self) -> bool {
+        match self {
+            Lent::InRange(chip) => chip.holds_unread(),
+            Lent::OutOfRange(_) => false,
+        }
+    }
+
     /// The chip, which is from now on one just reset where the device is out of
     /// range.
     pub fn settled(&mut self) -> &mut Chip {
@@ -235,8 +243,8 @@ impl Lent {
 }
 
 /// Numbers as the driver writes them, parted by one blank.
-pub fn numbers(all: &[u8]) -> String {
-    let words: Vec<String> = all.iter().map(u8::to_string).collect();
+pub fn numbers<N: ToString>(all: &[N]) -> String {
+    let words: Vec<String> = all.iter().map(N::to_string).collect();
     words.join(" ")
 }
 

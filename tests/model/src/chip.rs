@@ -347,6 +347,11 @@ impl Chip {
         self.status()
     }
 
+    /// Status bit 1 as a read would show it: RHR holds an unread character.
+    pub fn holds_unread(&self) -> bool {
+        self.status() & 2 != 0
+    }
+
     /// SYN1, SYN2 and DLE, which no call of the chip itself reads.
     pub fn syn(&self) -> [u8; 3] {
         self.syn

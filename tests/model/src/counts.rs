@@ -5,13 +5,20 @@ use crate::reach::conclude;
 use std::collections::HashMap;
 use std::process::ExitCode;
 
-/// The least count that is enough.
+/// The least count that is enough, and that of what is dear.
 const ENOUGH: u64 = 40;
+const ENOUGH_DEAR: u64 = 10;
+
+struct Named {
+    name: String,
+    least: u64,
+    counts: Vec<u64>,
+}
 
 #[derive(Default)]
 pub struct Counts {
     /// In the order in which they are reported.
-    all: Vec<(String, Vec<u64>)>,
+    all: Vec<Named>,
     /// The place of each name there.
     places: HashMap<String, usize>,
 }
@@ -19,7 +26,14 @@ pub struct Counts {
 impl Counts {
     /// Names that have one count.
     pub fn name<N: Into<String>>(&mut self, names: impl IntoIterator<Item = N>) {
-        names.into_iter().for_each(|name| self.add(name.into(), 1));
+        self.name_places(1, names);
+    }
+
+    /// The same for what is dear, of which fewer are enough.
+    pub fn name_dear<N: Into<String>>(&mut self, names: impl IntoIterator<Item = N>) {
+        for name in names {
+            self.add(name.into(), ENOUGH_DEAR, 1);
+        }
     }
 
     /// Names that have a count for each of some places.
@@ -28,20 +42,35 @@ impl Counts {
         places: usize,
         names: impl IntoIterator<Item = N>,
     ) {
-        let names = names.into_iter();
-        names.for_each(|name| self.add(name.into(), places));
+        for name in names {
+            self.add(name.into(), ENOUGH, places);
+        }
     }
 
-    fn add(&mut self, name: String, counts: usize) {
+    fn add(&mut self, name: String, least: u64, places: usize) {
         let before = self.places.insert(name.clone(), self.all.len());
         assert_eq!(before, None, "{name} stands twice");
-        self.all.push((name, vec![0; counts]));
+        let counts = vec![0; places];
+        self.all.push(Named {
+            name,
+            least,
+            counts,
+        });
+    }
+
+    /// Adds what another counted, whose names are the same.
+    pub fn join(&mut self, other: &Counts) {
+        for (mine, theirs) in self.all.iter_mut().zip(&other.all) {
+            for (mine, theirs) in mine.counts.iter_mut().zip(&theirs.counts) {
+                *mine += theirs;
+            }
+        }
     }
 
     fn of(&mut self, name: &str) -> &mut [u64] {
         let place = self.places.get(name);
         let place = *place.unwrap_or_else(|| panic!("no count has the name {name}"));
-        &mut self.all[place].1
+        &mut self.all[place].counts
     }
 
     pub fn count(&mut self, name: &str) {
@@ -69,11 +98,11 @@ impl Counts {
     pub fn report(&self) -> (String, bool) {
         let mut text = String::new();
         let mut whole = true;
-        for (name, counts) in &self.all {
-            let few = counts.iter().any(|&count| count < ENOUGH);
-            let words: Vec<String> = counts.iter().map(u64::to_string).collect();
+        for named in &self.all {
+            let few = named.counts.iter().any(|&count| count < named.least);
+            let words: Vec<String> = named.counts.iter().map(u64::to_string).collect();
             let note = if few { " MISSING" } else { "" };
-            text += &format!("{name}: {}{note}\n", words.join(" "));
+            text += &format!("{}: {}{note}\n", named.name, words.join(" "));
             whole &= !few;
         }
         (text, whole)
@@ -81,7 +110,11 @@ impl Counts {
 
     /// Prints the report; the status of a program that counts.
     pub fn conclude(&self) -> ExitCode {
-        let missing = format!("reached fewer than {ENOUGH} times");
-        conclude(self.report(), &missing)
+        conclude(self.report(), &seldom())
     }
+}
+
+/// What is wrong with counts that are missing.
+pub fn seldom() -> String {
+    format!("reached fewer than {ENOUGH} times, or {ENOUGH_DEAR} where that is dear")
 }

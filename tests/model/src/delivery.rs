@@ -1,10 +1,11 @@
 //! Demand 3 from the text of a session and its answer alone, for each way by
 //! itself: when a sender may write, at which joined tick each character comes,
-//! what is read, and that no flag is seen ("Receiving"). Also what the registers
-//! alone tell: the lines that are refused, and reads of them.
+//! what is read, that no flag is seen ("Receiving"), and when a wait for a character
+//! ends. Also what the registers alone tell: the lines that are refused, and reads of
+//! them.
 //!
 //! Nothing here leans on the model's chip. The sections named are those of
-//! document 01.
+//! document 01; waits are those of P12 of document 02, the change requests.
 
 pub mod reached;
 pub mod side;
@@ -16,30 +17,24 @@ use std::str::Lines;
 use way::Way;
 
 /// A line of a session: its number, its record or its refusal, the value that it
-/// read, and both sides before it and after it.
+/// read, its joined ticks, and both sides before it and after it.
 pub struct Call {
     line: usize,
     record: Result<Record, u8>,
     value: u8,
+    ticks: u16,
     before: [Side; 2],
     after: [Side; 2],
 }
 
 impl Call {
-    fn ticks(&self) -> u16 {
-        match self.record {
-            Ok(Record::JoinedTicks(count)) => count,
-            _ => 0,
-        }
-    }
-
     fn resets(&self, unit: Unit) -> bool {
         matches!(self.record, Ok(Record::Reset(at)) if at == unit)
     }
 
     /// A tick, or a character written: no part of a set-up.
     fn begins_something(&self) -> bool {
-        self.ticks() > 0 || matches!(self.record, Ok(Record::Write(_, 0, _)))
+        self.ticks > 0 || matches!(self.record, Ok(Record::Write(_, 0, _)))
     }
 
     /// The value read has the bits that it must show.
@@ -67,6 +62,9 @@ pub fn judge(session: &[u8], answer: &[u8], senders: &[Unit]) -> Result<Vec<&'st
     let mut reached = reached::in_set_up(&calls[begin..tick]);
     if begin > 0 {
         reached.push("set-up after ticks or characters");
+    }
+    if let Ok(Record::Wait(..)) = calls[tick].record {
+        reached.push("wait for the one joined tick of a set-up");
     }
     for &from in senders {
         reached.extend(follow(from, &calls[tick..])?);
@@ -100,7 +98,12 @@ fn call(
     answer: &mut Lines,
 ) -> Result<Call, String> {
     let record = record.and_then(|record| accepted(record, &before));
-    let value = answered(line, record, answer)?;
+    let number = answered(line, record, answer)?;
+    let (value, ticks) = match record {
+        Ok(Record::JoinedTicks(count)) => (0, count),
+        Ok(Record::Wait(..)) => (0, number),
+        _ => (number as u8, 0),
+    };
     let mut after = before;
     let mut told = (0, 0);
     if let Ok(record) = record {
@@ -113,34 +116,40 @@ fn call(
         line,
         record,
         value,
+        ticks,
         before,
         after,
     };
     call.must_show(told).map(|()| call)
 }
 
-/// The value of a read, and 0 of any other line. Only a refusal is answered too.
-fn answered(line: usize, record: Result<Record, u8>, answer: &mut Lines) -> Result<u8, String> {
+/// What a read reads, and what a wait spends; 0 of any other line. Only a refusal is
+/// answered too.
+fn answered(line: usize, record: Result<Record, u8>, answer: &mut Lines) -> Result<u16, String> {
     let missing = |what: &str| format!("line {line} is not answered with {what:?}");
-    match record {
-        Ok(Record::Read(unit, address)) => {
-            let read = format!("R\t{unit:?}\t{address}\t");
-            let value = answer.next().and_then(|text| text.strip_prefix(&read));
-            let value = value.and_then(|value| value.parse().ok());
-            value.ok_or_else(|| missing(&read))
-        }
-        Ok(_) => Ok(0),
+    let (begins, most) = match record {
+        Ok(Record::Read(unit, address)) => (format!("R\t{unit:?}\t{address}\t"), 255),
+        Ok(Record::Wait(unit, limit)) => (format!("B\t{unit:?}\t"), limit),
+        Ok(_) => return Ok(0),
         Err(number) => {
             let refusal = format!("E\t{line}\t{number}");
             let is_there = answer.next() == Some(&refusal);
-            is_there.then_some(0).ok_or_else(|| missing(&refusal))
+            return is_there.then_some(0).ok_or_else(|| missing(&refusal));
         }
-    }
+    };
+    let number = answer.next().and_then(|text| text.strip_prefix(&begins));
+    let number = number.and_then(|number| number.parse().ok());
+    let number = number.filter(|&number| u32::from(number) <= most);
+    number.ok_or_else(|| missing(&begins))
 }
 
 fn accepted(record: Record, sides: &[Side; 2]) -> Result<Record, u8> {
-    let unit = record.unit();
-    match unit.map_or(0, |unit| sides[unit as usize].refusal(record)) {
+    let refusal = match (record, record.unit()) {
+        (Record::Wait(_, 65_536..), _) => 21,
+        (_, Some(unit)) => sides[unit as usize].refusal(record),
+        (_, None) => 0,
+    };
+    match refusal {
         0 => Ok(record),
         refusal => Err(refusal),
     }
@@ -151,9 +160,7 @@ fn accepted(record: Record, sides: &[Side; 2]) -> Result<Record, u8> {
 fn set_up(calls: &[Call]) -> Option<(usize, usize)> {
     let is_reset = |call: &Call| UNITS.iter().any(|&unit| call.resets(unit));
     let last_reset = calls.iter().rposition(is_reset).unwrap_or(0);
-    let until_tick = calls[last_reset..]
-        .iter()
-        .position(|call| call.ticks() > 0)?;
+    let until_tick = calls[last_reset..].iter().position(|call| call.ticks > 0)?;
     let tick = last_reset + until_tick;
     let before = calls[..tick].iter().rposition(Call::begins_something);
     let begin = before.map_or(0, |place| place + 1);
@@ -171,7 +178,7 @@ fn follow(from: Unit, calls: &[Call]) -> Result<Vec<&'static str>, String> {
     }
     let mut way = Way::new(from, sender.frames());
     // Of the first line's ticks the first one is the set-up's.
-    let mut reached = ticks(&mut way, calls[0].ticks() - 1, &calls[0])?;
+    let mut reached = passed(&mut way, &calls[0], 1)?;
     for pair in calls.windows(2) {
         let (previous, call) = (&pair[0], &pair[1]);
         let [sender, receiver] = ends(&call.after);
@@ -179,7 +186,7 @@ fn follow(from: Unit, calls: &[Call]) -> Result<Vec<&'static str>, String> {
             return Err(format!("line {} closes the way from {from:?}", call.line));
         }
         reached.extend(match call.record {
-            Ok(Record::JoinedTicks(count)) => ticks(&mut way, count, call)?,
+            Ok(Record::JoinedTicks(_) | Record::Wait(..)) => passed(&mut way, call, 0)?,
             Ok(record) => done(&mut way, record, call, previous)?,
             Err(_) => continue,
         });
@@ -187,6 +194,46 @@ fn follow(from: Unit, calls: &[Call]) -> Result<Vec<&'static str>, String> {
     if way.is_under_way() || way.is_unread() {
         return Err(format!("not all is read that {from:?} wrote"));
     }
+    Ok(reached)
+}
+
+/// The joined ticks of a line but for the first ones, so many.
+fn passed(way: &mut Way, call: &Call, first: u16) -> Result<Vec<&'static str>, String> {
+    let left = call.ticks - first;
+    match call.record {
+        Ok(Record::Wait(unit, limit)) => waited(way, call, unit, limit, left),
+        _ => ticks(way, left, call),
+    }
+}
+
+/// A wait, of whose joined ticks some are left. At the end to which the way leads it
+/// goes on while no character is there, and ends where one is, or with its limit. In
+/// any case it ends with one after at most L+D ticks, where one was to come and the
+/// limit is as high.
+fn waited(
+    way: &mut Way,
+    call: &Call,
+    unit: Unit,
+    limit: u32,
+    left: u16,
+) -> Result<Vec<&'static str>, String> {
+    let fault = |what: &str| Err(format!("the wait of line {} {what}", call.line));
+    let (before, here, spent) = (way.clone(), unit == way.to(), u32::from(call.ticks));
+    let mut reached = Vec::new();
+    for _ in 0..left {
+        if here && way.is_unread() {
+            return fault("goes on with a character there");
+        }
+        reached.extend(ticks(way, 1, call)?);
+    }
+    if here && !way.is_unread() && spent < limit {
+        return fault("ends with no character there");
+    }
+    let is_promised = here && before.is_under_way() && limit >= way.bound();
+    if is_promised && !(way.is_unread() && spent <= way.bound()) {
+        return fault("brings no character within L+D ticks");
+    }
+    reached.extend(reached::by_wait(&before, way, unit, limit));
     Ok(reached)
 }
 

@@ -6,6 +6,7 @@ mod alike;
 pub mod boards;
 pub mod calls;
 mod hostile;
+mod limits;
 mod malformed;
 mod one_way;
 pub mod pairs;
@@ -17,6 +18,7 @@ mod ways;
 use crate::chip::joined_ticks;
 use crate::draw::Draws;
 use crate::session::{other, Bench, Pair, Record, Unit, UNITS};
+use crate::wait::wait;
 
 /// Sessions of each kind.
 pub const SESSIONS: u32 = 600;
@@ -127,6 +129,19 @@ impl Script {
         self.ticks += count;
         self.pending += count;
         joined_ticks(&mut self.pair.a, &mut self.pair.b, count);
+    }
+
+    /// A wait for a character, and the joined ticks that it spends: none where it is
+    /// refused.
+    fn wait(&mut self, unit: Unit, limit: u32) -> u32 {
+        self.flush();
+        self.text += &Record::Wait(unit, limit).to_string();
+        let holds = |pair: &Pair| pair.holds_unread(unit);
+        let tick = |pair: &mut Pair| joined_ticks(&mut pair.a, &mut pair.b, 1);
+        let spent = wait(&mut self.pair, limit, holds, tick);
+        let spent = spent.map_or(0, u32::from);
+        self.ticks += spent;
+        spent
     }
 
     fn flush(&mut self) {

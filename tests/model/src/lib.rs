@@ -6,12 +6,12 @@
 //! and keeps one mode. The module `chip` has the whole chip, `session` the
 //! session program, `calls` the text of the C driver and `ranges` the ranges of
 //! the device that it lends. The module `board` has eight chips on one board and the
-//! text of its driver, `pair` two lent devices on a line and the text of theirs. The
-//! other modules are the random tests from outside: `generate` draws sessions, runs of
-//! calls and devices, `program` runs the proved program, `driver` compares a C
-//! driver's answers with the model's, `delivery` holds an answer to demand 3 without
-//! the chip, `reach` and `counts` count what was reached and `shorten` cuts a
-//! difference down.
+//! text of its driver, `pair` two lent devices on a line and the text of theirs, `wait`
+//! the wait for a character that sessions and pairs have. The other modules are the
+//! random tests from outside: `generate` draws sessions, runs of calls and devices,
+//! `program` runs the proved program, `driver` compares a C driver's answers with the
+//! model's, `delivery` holds an answer to demand 3 without the chip, `reach` and
+//! `counts` count what was reached and `shorten` cuts a difference down.
 
 pub mod board;
 pub mod calls;
@@ -27,6 +27,7 @@ pub mod ranges;
 pub mod reach;
 pub mod session;
 pub mod shorten;
+pub mod wait;
 
 /// How characters are put on the line. `stop` is in ticks, not in bits, so
 /// that one and a half needs no fraction (with a factor of 1 it counts as 1).

@@ -1,6 +1,6 @@
-//! Two lent devices joined by a line, call by call: the joined tick of document 01
-//! and the run of many of P9 of the change requests, and the chip's own calls at
-//! either end.
+//! Two lent devices joined by a line, call by call: the joined tick of document 01,
+//! the run of many of P9 of the change requests and the wait of P12, and the chip's own
+//! calls at either end.
 //!
 //! `lines` is the text of the pair's C driver, `hearing` the receiver that some levels
 //! make, `reach` what random runs reached.
@@ -12,6 +12,7 @@ pub mod reach;
 use crate::calls::{Call as ChipCall, Lent};
 use crate::chip::{joined_tick, Chip};
 use crate::session::Unit;
+use crate::wait::wait;
 
 /// The most joined ticks of a run.
 pub const RUN_LIMIT: u32 = 65_535;
@@ -24,12 +25,22 @@ pub enum Call {
     Tick,
     /// So many of them.
     Run(u32),
+    /// A wait for a character: the number of its unit, and its limit.
+    Wait(u32, u32),
     /// A call of the chip at one end.
     On(Unit, ChipCall),
 }
 
 /// The refusal, and the numbers that the driver answers.
-pub type Answer = (u8, Vec<u8>);
+pub type Answer = (u8, Vec<u16>);
+
+/// The unit that a wait names: 0 is a, any other number b.
+pub fn named(number: u32) -> Unit {
+    match number {
+        0 => Unit::A,
+        _ => Unit::B,
+    }
+}
 
 #[derive(Clone, Debug, PartialEq, Eq)]
 pub struct Pair {
@@ -77,17 +88,33 @@ impl Pair {
         0
     }
 
+    /// The joined ticks of a wait, or its refusal. Where it spends none it leaves the
+    /// pair, as a run of none does.
+    pub fn wait(&mut self, unit: Unit, limit: u32) -> Result<u16, u8> {
+        let holds = |pair: &Pair| pair.end(unit).holds_unread();
+        wait(self, limit, holds, |pair| {
+            pair.tick();
+        })
+    }
+
     pub fn call(&mut self, call: &Call) -> Answer {
         match *call {
             Call::Tick => {
                 let [from_a, from_b] = self.tick();
-                (0, vec![2 * from_b + from_a])
+                (0, vec![(2 * from_b + from_a).into()])
             }
             Call::Run(ticks) => {
                 let refusal = self.run(ticks);
-                (refusal, vec![refusal])
+                (refusal, vec![refusal.into()])
             }
-            Call::On(unit, call) => self.end_mut(unit).call(&call),
+            Call::Wait(number, limit) => match self.wait(named(number), limit) {
+                Ok(spent) => (0, vec![0, spent]),
+                Err(refusal) => (refusal, vec![refusal.into(), 0]),
+            },
+            Call::On(unit, call) => {
+                let (refusal, numbers) = self.end_mut(unit).call(&call);
+                (refusal, numbers.into_iter().map(u16::from).collect())
+            }
         }
     }
 }

@@ -1,13 +1,17 @@
 //! What the random runs reached, counted by name on the model's chips, and for
 //! demand 3 by the sessions' text and answers (`delivery`). A run in which one of
-//! its names stays at 0 has not tested what it is for.
+//! its names stays at 0 has not tested what it is for; of a wait each name has to be
+//! reached often, and `waits` has those of a session's lines.
+
+mod waits;
 
 use crate::calls::{Call, Garbage, Lent, Line};
 use crate::chip::{decode, Chip, View, RECEIVE, RESET_ERROR};
 use crate::chip::{INTERNAL_RECEIVE_CLOCK, INTERNAL_TRANSMIT_CLOCK};
+use crate::counts::{seldom, Counts};
 use crate::delivery::reached;
 use crate::generate::{accepted_mode, ACCEPTED_MODES};
-use crate::session::{lines, Bench, Pair, Record, Unit};
+use crate::session::{act_wait, lines, Bench, Pair, Record, Unit};
 use crate::Format;
 use std::process::ExitCode;
 
@@ -101,13 +105,17 @@ pub struct Reach {
     /// The values of mode 1 that a frame was sent with, and a character received.
     sent: [bool; 256],
     received: [bool; 256],
+    /// Of waits, which only sessions have.
+    waits: Counts,
 }
 
 impl Reach {
     pub fn of_sessions() -> Reach {
         let names = OF_SESSIONS.into_iter().chain(reached::NAMES);
         let longest = LONGEST.iter().map(|(how, _)| longest(how));
-        Reach::of(names.map(String::from).chain(longest).collect())
+        let mut reach = Reach::of(names.map(String::from).chain(longest).collect());
+        waits::name(&mut reach.waits);
+        reach
     }
 
     pub fn of_calls() -> Reach {
@@ -126,12 +134,15 @@ impl Reach {
             counts: names.map(|name| (name, 0)).collect(),
             sent: [false; 256],
             received: [false; 256],
+            waits: Counts::default(),
         }
     }
 
     fn count(&mut self, name: &str) {
-        let counted = self.counts.iter_mut().find(|(known, _)| known == name);
-        counted.expect("a name of the list").1 += 1;
+        match self.counts.iter_mut().find(|(known, _)| known == name) {
+            Some((_, count)) => *count += 1,
+            None => self.waits.count(name),
+        }
     }
 
     /// Adds what another reached, whose names are the same.
@@ -143,6 +154,7 @@ impl Reach {
             self.sent[value] |= other.sent[value];
             self.received[value] |= other.received[value];
         }
+        self.waits.join(&other.waits);
     }
 
     /// A line for each count, and whether all was reached.
@@ -164,11 +176,13 @@ impl Reach {
             text += &format!("{name}: {count}{note}\n");
             whole &= *count > 0;
         }
-        (text, whole)
+        let (waits, often) = self.waits.report();
+        (text + &waits, whole && often)
     }
 
     pub fn conclude(&self) -> ExitCode {
-        conclude(self.report(), "not reached")
+        let missing = format!("not reached, or of a wait {}", seldom());
+        conclude(self.report(), &missing)
     }
 
     /// A transmit tick ("Sending").
@@ -292,6 +306,7 @@ impl Reach {
         if input.last().is_some_and(|&byte| byte != b'\n') {
             self.count("missing last newline");
         }
+        waits::watch_lines(&mut self.waits, input);
         for line in String::from_utf8_lossy(answer).lines() {
             if let ["E", _, number] = line.split('\t').collect::<Vec<_>>()[..] {
                 self.count(&format!("refusal {number}"));
@@ -447,6 +462,10 @@ impl Bench for Watched<'_> {
             }
             return (0..count).map(|_| self.tick()).collect();
         }
+        if let Record::Wait(unit, limit) = record {
+            waits::watch(&mut self.reach.waits, &self.pair, unit, limit);
+            return act_wait(self, |watched| &watched.pair, unit, limit);
+        }
         let answer = self.pair.act(record)?;
         let after = self.views();
         match record {
@@ -456,7 +475,7 @@ impl Bench for Watched<'_> {
             }
             Record::Pins(unit, _) => self.reach.pinned(&before[index(unit)], &after[index(unit)]),
             Record::Reset(unit) => self.reach.reset(&before[index(unit)]),
-            Record::Read(..) | Record::JoinedTicks(_) => {}
+            Record::Read(..) | Record::JoinedTicks(_) | Record::Wait(..) => {}
         }
         Ok(answer)
     }

@@ -4,9 +4,10 @@
 //! The input is cut into lines first; each line is then read as a record or
 //! refused, and each record acts on the chips, which may refuse it too. The
 //! sections named are those of document 01; where none is named it is "The
-//! session text".
+//! session text". P12 is that request of document 02, the change requests.
 
 use crate::chip::{joined_ticks, Chip};
+use crate::wait::wait;
 use std::fmt;
 
 /// Lines taken, refused ones too.
@@ -44,17 +45,19 @@ pub enum Record {
     Pins(Unit, [u8; 3]),
     Reset(Unit),
     JoinedTicks(u16),
+    /// A wait for a character at a unit (P12), and its limit, which may be too high.
+    Wait(Unit, u32),
 }
 
 impl Record {
-    /// The unit that is called; joined ticks are of both.
+    /// The unit that is called; joined ticks are of both, those of a wait too.
     pub fn unit(&self) -> Option<Unit> {
         match *self {
             Record::Write(unit, ..)
             | Record::Read(unit, _)
             | Record::Pins(unit, _)
             | Record::Reset(unit) => Some(unit),
-            Record::JoinedTicks(_) => None,
+            Record::JoinedTicks(_) | Record::Wait(..) => None,
         }
     }
 }
@@ -70,15 +73,32 @@ impl fmt::Display for Record {
             }
             Record::Reset(u) => writeln!(f, "Z\t{}", letter(u)),
             Record::JoinedTicks(count) => writeln!(f, "L\t{count}"),
+            Record::Wait(u, limit) => writeln!(f, "B\t{}\t{limit}", letter(u)),
         }
     }
 }
 
 /// What the records of a session act on.
 pub trait Bench {
-    /// The text that a record answers, which is empty for all but a read, or the
-    /// chip's refusal.
+    /// The text that a record answers, which is empty for all but a read and a wait,
+    /// or the refusal.
     fn act(&mut self, record: Record) -> Result<String, u8>;
+}
+
+/// What a wait answers on a bench with a pair, whose joined ticks are done one by one.
+pub fn act_wait<B: Bench>(
+    bench: &mut B,
+    pair: fn(&B) -> &Pair,
+    unit: Unit,
+    limit: u32,
+) -> Result<String, u8> {
+    let holds = |bench: &B| pair(bench).holds_unread(unit);
+    let tick = |bench: &mut B| {
+        let ticked = bench.act(Record::JoinedTicks(1));
+        assert_eq!(ticked, Ok(String::new()), "a joined tick is never refused");
+    };
+    let spent = wait(bench, limit, holds, tick)?;
+    Ok(format!("B\t{}\t{spent}\n", letter(unit)))
 }
 
 /// The whole output for the whole input.
@@ -132,6 +152,7 @@ fn record(line: &[u8]) -> Option<Record> {
         }
         [b"Z", u] => Record::Reset(unit(u)?),
         [b"L", count] => Record::JoinedTicks(decimal(count)?),
+        [b"B", u, limit] => Record::Wait(unit(u)?, decimal(limit)?),
         _ => return None,
     };
     Some(record)
@@ -146,7 +167,8 @@ fn unit(field: &[u8]) -> Option<Unit> {
 }
 
 /// The number of a decimal field. The type asked for sets its limit: a byte for
-/// addresses, values and levels, 16 bits for counts.
+/// addresses, values and levels, 16 bits for counts; any five digits fit the 32 bits
+/// of a wait's limit.
 fn decimal<T: TryFrom<u32>>(field: &[u8]) -> Option<T> {
     let digits = field.iter().all(u8::is_ascii_digit);
     if !digits || field.is_empty() || field.len() > MOST_DIGITS {
@@ -178,6 +200,13 @@ impl Pair {
             Unit::B => &mut self.b,
         }
     }
+
+    pub fn holds_unread(&self, unit: Unit) -> bool {
+        match unit {
+            Unit::A => self.a.holds_unread(),
+            Unit::B => self.b.holds_unread(),
+        }
+    }
 }
 
 impl Bench for Pair {
@@ -192,6 +221,7 @@ impl Bench for Pair {
             Record::Pins(unit, [dsr, dcd, cts]) => done(self.chip(unit).set_pins(dsr, dcd, cts))?,
             Record::Reset(unit) => self.chip(unit).reset(),
             Record::JoinedTicks(count) => joined_ticks(&mut self.a, &mut self.b, count.into()),
+            Record::Wait(unit, limit) => return act_wait(self, |pair| pair, unit, limit),
         }
         Ok(String::new())
     }

@@ -1,10 +1,12 @@
 //! Demand 3 as it is judged from a session and its answer alone: answers written
 //! by hand, and wrong benches whose own answers show it.
 
+mod wrong_waits;
+
 use model::chip::{joined_ticks, Chip};
 use model::delivery::judge;
 use model::generate::{senders, session, Kind, SESSIONS};
-use model::session::{answer, answer_on, Bench, Pair, Record, Unit, UNITS};
+use model::session::{act_wait, answer, answer_on, Bench, Pair, Record, Unit, UNITS};
 
 /// Both units set up as in the worked session, then one joined tick: nine lines.
 /// L is 176 and D is 152.
@@ -199,6 +201,81 @@ fn one_way_does_not_rest_on_the_other() {
     assert!(judged(&input, output, &UNITS).is_err());
 }
 
+/// Waits behind the set-up, and their answers. L+D is 328; on an idle sender a wait takes
+/// 1+D, behind another frame L.
+const WAITS: &str = "B B 0; W A 0 1; B B 328; R B 1; B B 328; R B 0; B B 10; L 13; W A 0 2; L 1; \
+    W A 0 3; B B 65535; R B 0; B B 175; B B 1; R B 0; B B 65536; B A 40";
+const WAITED: &str = "B B 0; B B 153; R B 1 199; B B 0; R B 0 1; B B 10; B B 152; R B 0 2; \
+    B B 175; B B 1; R B 0 3; E 26 21; B A 40; N 27 1";
+
+#[test]
+fn a_wait_ends_with_the_first_character_within_its_limit() {
+    let changes = [
+        // A tick early and a tick late, a wait with a character there, limits.
+        ("B B 153", "B B 152"),
+        ("B B 153", "B B 154"),
+        ("B B 153", "B B 328"),
+        ("199; B B 0", "199; B B 1"),
+        ("B B 10", "B B 9"),
+        ("B B 10", "B B 11"),
+        ("B B 152", "B B 151"),
+        ("B B 175", "B B 174"),
+        ("B B 1;", "B B 0;"),
+        ("B B 1;", "B B 2;"),
+        ("B A 40", "B A 39"),
+        // Another unit, no answer, no refusal, another one.
+        ("B B 153", "B A 153"),
+        ("B B 153; ", ""),
+        ("E 26 21", "B B 0"),
+        ("E 26 21", "E 26 6"),
+        ("N 27 1", "N 27 0"),
+    ];
+    is_right_but_not_with(&(SET_UP.to_string() + WAITS), WAITED, &changes);
+}
+
+#[test]
+fn what_waits_reach_on_a_way_is_told() {
+    let reached = judged(&(SET_UP.to_string() + WAITS), WAITED, &UNITS).unwrap();
+    for name in [
+        "wait on a way, limit 0",
+        "wait on a way with a character there",
+        "wait on a way with nothing to come",
+        "wait on a way for a character to come, limit L+D",
+        "wait on a way for a character to come, limit above L+D",
+        "wait on a way for a frame that starts with its first tick",
+        "wait on a way that brings a character with its last tick",
+        "wait on a way that ends a tick before a character",
+        "wait on a way at the end that sends",
+    ] {
+        assert!(reached.contains(&name), "{name}");
+    }
+}
+
+#[test]
+fn a_wait_may_be_the_one_joined_tick_of_a_set_up() {
+    let by_wait = SET_UP.replace("L 1; ", "B A 1; ") + "W A 0 1; B B 328; R B 0";
+    is_right_but_not_with(
+        &by_wait,
+        "B A 1; B B 153; R B 0 1; N 12 0",
+        &[("B A 1", "B A 0"), ("153", "152"), ("R B 0 1", "R B 0 0")],
+    );
+    // One that is refused or has limit 0 is no tick.
+    let none = SET_UP.replace("L 1; ", "B A 0; B B 99999; L 1; ") + "W A 0 1; B B 328; R B 0";
+    is_right_but_not_with(
+        &none,
+        "B A 0; E 10 21; B B 153; R B 0 1; N 14 1",
+        &[("B A 0; ", ""), ("E 10 21; ", "")],
+    );
+}
+
+#[test]
+fn a_wait_is_no_reason_to_read_late() {
+    let late = SET_UP.to_string() + "W B 0 1; L 153; ";
+    let in_time = late.clone() + "B B 175; R A 0";
+    is_right_but_not_with(&in_time, "B B 175; R A 0 1; N 13 0", &[("175", "174")]);
+    is_not_for_judging(&(late + "B B 176; R A 0"), "before a read");
+}
+
 #[test]
 fn the_premises_are_asked_for() {
     is_not_for_judging("R A 1", "freshly");
@@ -244,8 +321,10 @@ struct Wrong {
 
 impl Bench for Wrong {
     fn act(&mut self, record: Record) -> Result<String, u8> {
-        let Record::JoinedTicks(count) = record else {
-            return (self.fault)(self, record);
+        let count = match record {
+            Record::JoinedTicks(count) => count,
+            Record::Wait(unit, limit) => return act_wait(self, |wrong| &wrong.pair, unit, limit),
+            _ => return (self.fault)(self, record),
         };
         for _ in 0..count {
             self.before = [self.pair.a.clone(), self.pair.b.clone()];
@@ -421,10 +500,14 @@ fn wrong_answer(fault: Fault, input: &[u8]) -> Vec<u8> {
 
 /// Whether a session of `kind` shows the fault.
 fn is_found(kind: Kind, fault: Fault) -> bool {
+    is_seen(kind, |input| wrong_answer(fault, input))
+}
+
+/// Whether one shows by its answers alone that they are wrong.
+fn is_seen(kind: Kind, wrong: impl Fn(&[u8]) -> Vec<u8>) -> bool {
     (0..SESSIONS).any(|index| {
         let input = session(kind, index);
-        let answer = wrong_answer(fault, &input);
-        judge(&input, &answer, &senders(kind, index)).is_err()
+        judge(&input, &wrong(&input), &senders(kind, index)).is_err()
     })
 }
 
@@ -459,4 +542,14 @@ fn what_one_way_does_not_rest_on_is_found_one_way() {
     assert!(is_found(Kind::OneWay, dsr_stops_receiving));
     assert!(is_found(Kind::OneWay, overrun_stops_sending));
     assert!(is_found(Kind::OneWay, receive_off_stops_sending));
+}
+
+#[test]
+fn wrong_waits_are_found_both_ways_and_one_way() {
+    for (name, wait, judged) in wrong_waits::ALL {
+        for kind in [Kind::Alike, Kind::OneWay] {
+            let seen = is_seen(kind, |input| wrong_waits::wrong_answer(*wait, input));
+            assert_eq!(seen, *judged, "{name}, {kind:?}");
+        }
+    }
 }

@@ -6,7 +6,7 @@ mod wrong_pairs;
 use model::calls::{Call as ChipCall, DEVICE_BYTES};
 use model::chip::set_up;
 use model::driver::{self, text};
-use model::generate::pairs::{run, RUNS};
+use model::generate::pairs::{run, RUNS, WAIT_RUNS};
 use model::pair::hearing::in_step;
 use model::pair::lines::{Bench, Line, Make};
 use model::pair::reach::Reach;
@@ -19,9 +19,15 @@ fn found(make: Make) -> Option<Vec<Line>> {
     driver::found((0..RUNS).map(run), || Bench::new(make))
 }
 
+/// The same of the runs of waits.
+fn found_by_waits(make: Make) -> Option<Vec<Line>> {
+    driver::found((RUNS..RUNS + WAIT_RUNS).map(run), || Bench::new(make))
+}
+
 #[test]
 fn a_right_pair_is_found_right() {
     assert_eq!(found(Pair::call), None);
+    assert_eq!(found_by_waits(Pair::call), None);
 }
 
 #[test]
@@ -30,6 +36,31 @@ fn each_wrong_pair_is_found() {
         let found = found(make).expect(name);
         // At most two ends that are set up, some characters and runs, what shows it.
         assert!(found.len() <= 24, "{name}:\n{}", text(&found));
+    }
+}
+
+#[test]
+fn each_wrong_wait_is_found() {
+    for (name, make) in wrong_pairs::all_waits() {
+        let found = found_by_waits(make).expect(name);
+        assert!(found.len() <= 24, "{name}:\n{}", text(&found));
+        let waits = |line: &Line| matches!(line, Line::Call(Call::Wait(..)));
+        assert!(found.iter().any(waits), "{name}:\n{}", text(&found));
+    }
+}
+
+#[test]
+fn a_wrong_wait_is_shortened_to_its_calls() {
+    for (name, shortest) in [
+        ("a limit of 65535 is refused", "wait 0 65535\n"),
+        ("a limit of 65536 is taken", "wait 0 65536\n"),
+        ("a limit of 0 is refused", "wait 0 0\n"),
+        ("a refused wait answers another number", "wait 0 65536\n"),
+    ] {
+        let all = wrong_pairs::all_waits();
+        let wrong = all.iter().find(|(known, _)| *known == name);
+        let lines = found_by_waits(wrong.expect("a wrong wait").1).expect(name);
+        assert_eq!(text(&lines), shortest);
     }
 }
 
@@ -246,4 +277,162 @@ fn a_break_and_its_guard_are_counted_by_way() {
     assert_eq!(counts("leaves a part of a guard"), "0 1");
     assert_eq!(counts("has the receiver wait at 0 throughout"), "0 1");
     assert_eq!(counts("runs a guard down"), "0 0");
+}
+
+// What waits reached.
+
+/// The two ends, and a wait that is shown behind them.
+fn wait(a: [u8; DEVICE_BYTES], b: [u8; DEVICE_BYTES], number: u32, limit: u32) -> Vec<Line> {
+    let devices = [Line::Device(Unit::A, a), Line::Device(Unit::B, b)];
+    let wait = [Line::Call(Call::Wait(number, limit)), Line::Bytes];
+    [devices, wait].concat()
+}
+
+/// The counts of waits that do something, by the unit that is named.
+fn waits_that(lines: &[Line], what: &str) -> String {
+    reached(lines, &format!("wait that {what}, by unit"))
+}
+
+/// A frame from a whose stop sample is 93 ticks from now, and its receiver at b, which
+/// sends none and may hold a character.
+fn in_93_ticks(unread: u8) -> [[u8; DEVICE_BYTES]; 2] {
+    let (a, mut b) = (end(60, 160), end(1, 60));
+    b[12..20].fill(0);
+    b[36] = unread;
+    [a, b]
+}
+
+#[test]
+fn the_endings_of_waits_are_counted_by_unit() {
+    for (unread, limit, ending) in [
+        (0, 93, "brings a character"),
+        (0, 93, "brings a character in the last tick of its limit"),
+        (0, 94, "brings a character of a frame under way"),
+        (0, 92, "uses up its limit"),
+        (0, 92, "uses up its limit a tick before one comes"),
+        (0, 0, "has limit 0 with none there"),
+        (0, 65_536, "is refused with none there"),
+        (1, 9, "finds a character there"),
+        (1, 0, "has limit 0 with a character there"),
+        (1, u32::MAX, "is refused with a character there"),
+    ] {
+        let [a, b] = in_93_ticks(unread);
+        let counts = |number| waits_that(&wait(a, b, number, limit), ending);
+        assert_eq!(counts(1), "0 1", "{limit}: {ending}");
+        assert!(counts(0).ends_with(" 0"), "{limit}: {ending}");
+    }
+    let unseen = [Line::Call(Call::Wait(0, 0)), Line::Call(Call::Tick)];
+    assert_eq!(waits_that(&unseen, "has limit 0"), "0 0");
+}
+
+#[test]
+fn what_waits_end_beside_and_pass_is_counted() {
+    let (last, before) = (
+        "brings a character in the last tick of its limit",
+        "uses up its limit a tick before one comes",
+    );
+    let (gets, overruns) = (
+        "uses up its limit while the other gets one",
+        "uses up its limit while the other overruns",
+    );
+    for (unread, number, limit, what, counts) in [
+        (0, 1, 94, last, "0 0"),
+        (0, 1, 91, before, "0 0"),
+        (0, 0, 93, gets, "1 0"),
+        (0, 0, 92, gets, "0 0"),
+        (1, 0, 93, overruns, "1 0"),
+        (0, 0, 93, overruns, "0 0"),
+    ] {
+        let [a, b] = in_93_ticks(unread);
+        let lines = wait(a, b, number, limit);
+        assert_eq!(waits_that(&lines, what), counts, "{limit}: {what}");
+    }
+}
+
+#[test]
+fn when_the_frame_begins_that_is_waited_for_is_counted() {
+    let hears = set_up(78, 0, 5).bytes();
+    let waiting = |guard: u8| {
+        let mut bytes = set_up(78, 0, 5).bytes();
+        [bytes[20], bytes[21], bytes[22]] = [CHARACTER, 1, guard];
+        bytes
+    };
+    for (guard, counts) in [
+        (0, ["1 0", "0 0", "0 0", "0 0"]),
+        (1, ["0 0", "1 0", "0 0", "1 0"]),
+        (15, ["0 0", "1 0", "0 0", "1 0"]),
+        (16, ["0 0", "1 0", "1 0", "1 0"]),
+    ] {
+        let mut searches = hears;
+        searches[24] = 1;
+        let lines = wait(searches, waiting(guard), 0, 400);
+        let names = [
+            "that begins at once",
+            "that begins later",
+            "that begins long after",
+        ];
+        let names = names.map(|begins| format!("of a frame {begins}"));
+        let [at_once, later, long_after] = names;
+        let behind = "behind a guard".to_string();
+        for (how, count) in [at_once, later, long_after, behind].iter().zip(counts) {
+            let what = format!("brings a character {how}");
+            assert_eq!(waits_that(&lines, &what), count, "{guard}: {what}");
+        }
+    }
+}
+
+#[test]
+fn devices_out_of_range_are_counted_by_the_unit_that_is_named() {
+    let whole = set_up(78, 0, 5).bytes();
+    let mut out = whole;
+    [out[7], out[36]] = [2, 1];
+    for (a, b, range, counts) in [
+        (whole, whole, "both in range", ["1 0", "0 1"]),
+        (out, whole, "its unit out of range", ["1 0", "0 0"]),
+        (whole, out, "its unit out of range", ["0 0", "0 1"]),
+        (out, whole, "the other out of range", ["0 0", "0 1"]),
+        (whole, out, "the other out of range", ["1 0", "0 0"]),
+        (out, out, "both out of range", ["1 0", "0 1"]),
+    ] {
+        for (limit, ending) in [
+            (0, "has limit 0"),
+            (9, "uses up its limit"),
+            (65_536, "is refused"),
+        ] {
+            let what = format!("{ending} with {range}");
+            let counted = [0, 2].map(|number| waits_that(&wait(a, b, number, limit), &what));
+            assert_eq!(counted, counts, "{what}");
+        }
+    }
+    let marked = "uses up its limit with its unit out of range and marked unread";
+    assert_eq!(waits_that(&wait(out, whole, 0, 9), marked), "1 0");
+    assert_eq!(waits_that(&wait(out, whole, 1, 9), marked), "0 0");
+}
+
+#[test]
+fn numbers_of_units_and_limits_are_counted() {
+    let whole = set_up(78, 0, 5).bytes();
+    let lines = wait(whole, whole, 256, 65_539);
+    for name in [
+        "wait on unit 256",
+        "wait of limit 65537 to 99998",
+        "wait of limit a multiple of 65536 and 1 to 999",
+    ] {
+        assert_eq!(reached(&lines, name), "1");
+    }
+    let lines = wait(whole, whole, 257, u32::MAX);
+    for name in ["wait on unit of another number", "wait of limit 4294967295"] {
+        assert_eq!(reached(&lines, name), "1");
+    }
+}
+
+#[test]
+fn of_what_is_dear_fewer_are_enough() {
+    let longest = [Line::Call(Call::Wait(0, 65_535)), Line::Bytes];
+    for (count, note) in [(9, " MISSING"), (10, "")] {
+        let mut reach = Reach::of_pairs();
+        reach.run(&longest.repeat(count));
+        let line = format!("wait that uses up 65535: {count}{note}\n");
+        assert!(reach.report().0.contains(&line), "{line}");
+    }
 }

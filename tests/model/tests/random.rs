@@ -1,14 +1,16 @@
 //! The random tests themselves: wrong benches and wrong drivers are found within
 //! the fixed seeds, and what is shown of them is short.
 
+mod wrong_waits;
+
 use model::calls::{numbers, Call, Lent, Line};
 use model::chip::{Chip, View};
 use model::driver::{difference, shortest, text};
 use model::generate::calls::{run, RUNS};
 use model::generate::{session, Kind, KINDS, SESSIONS};
 use model::program::Program;
-use model::reach::Reach;
-use model::session::{answer, answer_on, Bench, Pair, Record, Unit};
+use model::reach::{Reach, Watched};
+use model::session::{act_wait, answer, answer_on, parse, Bench, Pair, Record, Unit};
 use model::shorten::{self, shorten, smaller};
 use std::time::Duration;
 
@@ -67,8 +69,10 @@ struct Wrong {
 
 impl Bench for Wrong {
     fn act(&mut self, record: Record) -> Result<String, u8> {
-        let Record::JoinedTicks(count) = record else {
-            return self.pair.act(record);
+        let count = match record {
+            Record::JoinedTicks(count) => count,
+            Record::Wait(unit, limit) => return act_wait(self, |wrong| &wrong.pair, unit, limit),
+            _ => return self.pair.act(record),
         };
         for _ in 0..count {
             (self.before_tick)(&mut self.pair.a);
@@ -137,12 +141,13 @@ fn no_guard(chip: &mut Chip) {
 
 // The modes, commands and pins of both ends, a character, ticks and a status are
 // nine lines; a further command makes them ten, and a second character after the
-// first, or new pins and a tick, eleven.
+// first, or new pins and a tick, eleven. Where waits bring two characters there is a
+// tick and a read between, and one wait more: fourteen.
 
 #[test]
 fn a_bench_that_never_overruns_is_found() {
     let shortest = found(Kind::Realistic, |input| wrong_answer(never_overruns, input));
-    assert!(lines(&shortest) <= 9, "{}", shortest.escape_ascii());
+    assert!(lines(&shortest) <= 11, "{}", shortest.escape_ascii());
 }
 
 #[test]
@@ -150,7 +155,7 @@ fn flags_that_a_good_character_clears_are_found() {
     let shortest = found(Kind::Realistic, |input| {
         wrong_answer(a_good_character_clears_flags, input)
     });
-    assert!(lines(&shortest) <= 11, "{}", shortest.escape_ascii());
+    assert!(lines(&shortest) <= 14, "{}", shortest.escape_ascii());
 }
 
 #[test]
@@ -239,6 +244,59 @@ fn a_longest_count_that_is_cut_short_is_found() {
     };
     let shortest = found(Kind::Realistic, |input| answer_to_changed(input, cut));
     assert!(lines(&shortest) <= 10, "{}", shortest.escape_ascii());
+}
+
+#[test]
+fn sessions_of_each_kind_have_waits() {
+    for kind in KINDS {
+        let inputs: Vec<Vec<u8>> = (0..SESSIONS).map(|index| session(kind, index)).collect();
+        // Those that are done, refused with 21, and refused with 6.
+        let mut counts = [0; 3];
+        for line in inputs.iter().flat_map(|input| model::session::lines(input)) {
+            match parse(line) {
+                Ok(Record::Wait(_, 0..=65_535)) => counts[0] += 1,
+                Ok(Record::Wait(..)) => counts[1] += 1,
+                Err(6) if line.starts_with(b"B\t") => counts[2] += 1,
+                _ => {}
+            }
+        }
+        assert!(
+            counts.iter().all(|&count| count >= 40),
+            "{kind:?}: {counts:?}"
+        );
+    }
+}
+
+#[test]
+fn each_wrong_wait_is_found() {
+    // In lines that are damaged hardly a character comes.
+    let kinds = KINDS.into_iter().filter(|&kind| kind != Kind::Malformed);
+    for kind in kinds {
+        for (name, wait, _) in wrong_waits::ALL {
+            let shortest = found(kind, |input| wrong_waits::wrong_answer(*wait, input));
+            let shown = format!("{name}: {}", shortest.escape_ascii());
+            // Pointers are put right in some set-ups, and a tick is seen by a count of
+            // ticks before the wait and one behind it.
+            assert!(lines(&shortest) <= 16, "{shown}");
+            let mut lines = model::session::lines(&shortest);
+            assert!(lines.any(|line| line.starts_with(b"B\t")), "{shown}");
+        }
+    }
+}
+
+#[test]
+fn limits_of_waits_with_another_refusal_are_found() {
+    // Six digits that are refused with 21, and five that are refused with 6.
+    let limits: [(&[u8], &[u8]); 3] = [
+        (b"B\tA\t100000", b"B\tA\t99999"),
+        (b"B\tB\t65536", b"x"),
+        (b"B\tB\t99999", b"x"),
+    ];
+    for (given, taken) in limits {
+        let other = |line: &[u8]| if line == given { taken } else { line }.to_vec();
+        let shortest = found(Kind::Malformed, |input| answer_to_changed(input, other));
+        assert_eq!(shortest.trim_ascii_end(), given);
+    }
 }
 
 #[test]
@@ -521,5 +579,49 @@ fn no_flag_is_seen_while_receive_is_off() {
             let view = lent.view();
             assert!(view.command & 4 != 0 || view.status & 56 == 0);
         }
+    }
+}
+
+/// What a session reached by its text, and on the model's chips.
+fn reached(input: &[u8]) -> String {
+    let mut reach = Reach::of_sessions();
+    let pair = Pair::just_reset();
+    let reach_of = &mut reach;
+    let output = answer_on(
+        &mut Watched {
+            pair,
+            reach: reach_of,
+        },
+        input,
+    );
+    reach.session(input, &output);
+    reach.report().0
+}
+
+#[test]
+fn the_lines_of_waits_are_counted() {
+    let input =
+        "B\tA\t7\nB\tB\t07\nB\tA\t0\nB\tA\t65536\nB\tA\t000007\nB\tC\t7\nB\tA\tx\nb\tA\t7\n\
+        B\ta\t7\nB\tA\nB\tA\t7\t7\n";
+    let long = format!("B\tA\t{:0>61}\nB\tB\t99999", 7);
+    let report = reached((input.to_string() + &long).as_bytes());
+    for (name, counts) in [
+        ("wait that uses up its limit, by unit", "1 1"),
+        ("wait that has limit 0, by unit", "1 0"),
+        ("wait that is refused, by unit", "1 1"),
+        ("wait by the digits of its count, 1 to 4", "3 0 0 0"),
+        ("wait's line with zeros before its limit", "1"),
+        ("wait's line that is the last and lacks its newline", "1"),
+        ("refusal 21", "2"),
+        ("refusal 7 of a wait's line", "1"),
+        ("refusal 6 of a wait's line: six digits or more", "1"),
+        ("refusal 6 of a wait's line: no such unit", "1"),
+        ("refusal 6 of a wait's line: no number", "1"),
+        ("refusal 6 of a wait's line: lower case", "2"),
+        ("refusal 6 of a wait's line: too few fields", "1"),
+        ("refusal 6 of a wait's line: too many fields", "1"),
+    ] {
+        let line = format!("\n{name}: {counts} MISSING\n");
+        assert!(report.contains(&line), "{line}{report}");
     }
 }

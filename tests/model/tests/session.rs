@@ -212,8 +212,8 @@ fn refused_lines_count_among_the_65535() {
 
 #[test]
 fn each_shape_is_done() {
-    all_refused(0, &["W A 0 1", "R A 1", "P A 1 0 1", "Z A", "L 1"]);
-    all_refused(0, &["W B 0 1", "R B 1", "P B 1 0 1", "Z B", "L 0"]);
+    all_refused(0, &["W A 0 1", "R A 1", "P A 1 0 1", "Z A", "L 1", "B A 1"]);
+    all_refused(0, &["W B 0 1", "R B 1", "P B 1 0 1", "Z B", "L 0", "B B 0"]);
 }
 
 #[test]
@@ -222,23 +222,32 @@ fn fields_too_few_or_too_many() {
     all_refused(6, &["R", "R A", "R A 1 1"]);
     all_refused(6, &["P", "P A", "P A 0", "P A 0 0", "P A 0 0 0 0"]);
     all_refused(6, &["Z", "Z A 0", "L", "L 1 1", "L A 1"]);
+    all_refused(6, &["B", "B A", "B 1", "B A 1 1", "B A B 1", "B A 65536 1"]);
 }
 
 #[test]
 fn letters_of_no_record_or_unit() {
     all_refused(6, &["N 0 0", "E 1 1", "X", "WW A 0 1", "ZA", "R1 A 1"]);
     all_refused(6, &["R C 1", "Z @", "Z AB", "Z AA", "Z 0", "R 1 1"]);
+    all_refused(
+        6,
+        &["B C 1", "B AB 1", "B 0 1", "B 1 1", "BB A 1", "B1 A 1"],
+    );
 }
 
 #[test]
 fn lower_case_is_a_shape_fault() {
     all_refused(6, &["w A 0 1", "r A 1", "p A 0 0 0", "z A", "l 1"]);
     all_refused(6, &["W a 0 1", "R a 1", "P b 0 0 0", "Z a", "Z b"]);
+    all_refused(
+        6,
+        &["b A 1", "b B 0", "B a 1", "B b 1", "b a 1", "b A 65536"],
+    );
 }
 
 #[test]
 fn fields_are_parted_by_exactly_one_tab() {
-    for line in ["W A 0 1", "R A 1", "P A 0 0 0", "Z A", "L 1"] {
+    for line in ["W A 0 1", "R A 1", "P A 0 0 0", "Z A", "L 1", "B A 1"] {
         let doubled = (line.replacen(' ', "  ", 1), line.replace(' ', "  "));
         let at_ends = (format!("{line} "), format!(" {line}"));
         all_refused(6, &[&doubled.0, &doubled.1, &at_ends.0, &at_ends.1]);
@@ -247,13 +256,15 @@ fn fields_are_parted_by_exactly_one_tab() {
     }
     // Here the number of fields is right, and one is empty.
     all_refused(6, &["R A ", "R  1", " A 1", "Z ", "L ", "W A 0 ", "W A  1"]);
+    all_refused(6, &["B A ", "B  1"]);
 }
 
 #[test]
 fn fields_that_are_no_decimal_numbers() {
     let fields = ["+1", "-1", "-0", " 1", "1 ", "0x1", "1.", "1e0", "1_0", "A"];
     for field in fields {
-        for line in [format!("R\tA\t{field}"), format!("L\t{field}")] {
+        let lines = ["R\tA", "L", "B\tA"].map(|line| format!("{line}\t{field}"));
+        for line in lines {
             assert_eq!(raw_refusal(&line), 6, "{line:?}");
         }
     }
@@ -344,6 +355,15 @@ fn counts_at_their_limits() {
     all_refused(6, &["L 65536", "L 65537", "L 99999", "L 100000"]);
 }
 
+#[test]
+fn limits_of_waits_at_their_limits() {
+    all_refused(0, &["B A 0", "B A 1", "B B 65534", "B B 65535"]);
+    all_refused(0, &["B A 00000", "B A 00001", "B B 00255", "B B 09999"]);
+    all_refused(21, &["B A 65536", "B B 65537", "B A 70000", "B B 99999"]);
+    all_refused(6, &["B A 100000", "B B 131072", "B A 4294967296"]);
+    all_refused(6, &["B A 000000", "B A 000001", "B A 065535", "B B 065536"]);
+}
+
 // Refusals.
 
 #[test]
@@ -355,11 +375,12 @@ fn each_refusal_number() {
     all_refused(5, &["W B 3 64", "W B 3 128", "W B 3 192", "W B 3 255"]);
     all_refused(6, &["R B"]);
     all_refused(7, &[&filled("R B 3", 65)]);
+    all_refused(21, &["B B 65536"]);
 }
 
 #[test]
 fn seven_comes_before_six_and_before_the_chips_own() {
-    for line in ["X", "R A 4", "R A 4 ", "P A 2 0 0 "] {
+    for line in ["X", "R A 4", "R A 4 ", "P A 2 0 0 ", "B A 65536", "B A 1"] {
         all_refused(6, &[&filled(line, 64)]);
         all_refused(7, &[&filled(line, 65)]);
     }
@@ -373,6 +394,7 @@ fn six_comes_before_the_chips_own() {
     all_refused(6, &["R A 4 ", "W A 4", "W A 4 256", "R C 4"]);
     all_refused(6, &["P A 2 0", "P A 2 256 0", "P A 2 0 x", "P A 2 0 0 0"]);
     all_refused(6, &["W A 2 0 ", "W A 2 1 ", "W A 3 64 ", "W A 3 256"]);
+    all_refused(6, &["B C 65536", "B A 65536 ", "B A 99999 0", "B a 99999"]);
 }
 
 #[test]
@@ -395,6 +417,60 @@ fn refused_records_do_nothing() {
     // A count with a fault runs no tick.
     let input = format!("{SET_UP}W A 0 255; L 152; L 65537; R B 1");
     gives(&input, "E 12 6; R B 1 197; N 13 1");
+}
+
+// Waits, P12 of the change requests.
+
+#[test]
+fn a_wait_prints_its_unit_and_its_count() {
+    gives("B A 3; B B 0", "B A 3; B B 0; N 2 0");
+    assert_eq!(answer(b"B\tA\t3\n"), b"B\tA\t3\nN\t1\t0\n");
+    // Without leading zeros, and also where its line lacks a newline.
+    raw_gives("B\tB\t00012", "B B 12; N 1 0");
+    gives("B A 65535; B A 00000", "B A 65535; B A 0; N 2 0");
+}
+
+#[test]
+fn the_worked_session_by_waits() {
+    let input = format!("{SET_UP}W A 0 255; B B 328; R B 1; B B 328; R B 0; B B 328; R B 1");
+    let output = "B B 153; R B 1 199; B B 0; R B 0 255; B B 328; R B 1 193; N 16 0";
+    gives(&input, output);
+    let input = format!("{SET_UP}W A 0 255; B B 152; R B 1; B B 1; R B 1; R B 0");
+    let output = "B B 152; R B 1 197; B B 1; R B 1 195; R B 0 255; N 15 0";
+    gives(&input, output);
+}
+
+#[test]
+fn a_wait_concerns_its_unit_alone() {
+    let written = format!("{SET_UP}W A 0 65; ");
+    gives(
+        &format!("{written}B A 200; R B 0"),
+        "B A 200; R B 0 65; N 12 0",
+    );
+    gives(
+        &format!("{written}B B 200; R A 0"),
+        "B B 153; R A 0 0; N 12 0",
+    );
+    // B comes 100 ticks behind A.
+    let both = format!("{written}L 100; W B 0 66; B A 65535; B B 65535; R A 0; R B 0");
+    gives(&both, "B A 153; B B 0; R A 0 66; R B 0 65; N 16 0");
+}
+
+#[test]
+fn a_refused_wait_is_a_refusal_and_does_nothing() {
+    gives("B A 65536; B B 1", "E 1 21; B B 1; N 2 1");
+    let input = format!("{SET_UP}W A 0 255; L 152; B B 65536; B B 100000; R B 1; B B 9; B B 99999");
+    let output = "E 12 21; E 13 6; R B 1 197; B B 1; E 16 21; N 16 3";
+    gives(&input, output);
+}
+
+#[test]
+fn a_wait_clears_no_mark() {
+    // The change-mark is bit 2; nothing but a status read clears it.
+    gives(
+        "P A 0 1 1; B A 5; R A 1; R A 1",
+        "B A 5; R A 1 132; R A 1 128; N 4 0",
+    );
 }
 
 // What the records do.

@@ -427,3 +427,15 @@ pub fn joined_ticks(a: &mut Chip, b: &mut Chip, count: u16) {
         joined_tick(a, b);
     }
 }
+
+/// Joined ticks until `to` has an unread character, or the limit is used up; how many. (Inlined, so that programs without
+/// a wait are compiled as before.)
+#[inline]
+pub fn joined_wait(from: &mut Chip, to: &mut Chip, limit: u16) -> u16 {
+    let mut count = 0;
+    while count < limit && !to.unread {
+        joined_tick(from, to);
+        count += 1;
+    }
+    count
+}

@@ -333,6 +333,12 @@ impl Device {
         (self.flags.empty | self.flags.change) << 2 | self.receiver.unread << 1 | may_write
     }
 
+    /// One that is out of range holds none.
+    #[inline(always)]
+    pub fn holds_unread(&self) -> bool {
+        self.receiver.unread != 0 && self.in_range()
+    }
+
     /// Status bits 1 and 0, without a look at the range.
     #[inline(always)]
     pub fn interrupts(&self) -> u8 {

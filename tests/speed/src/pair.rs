@@ -2,9 +2,10 @@
 
 use crate::lent::Device;
 
-/// Ticks of a run at the most (P9 of the change requests), and what more of them are refused with.
+/// Ticks of a run or a wait at the most (P9 and P12 of the change requests), and what more of them are refused with.
 const MOST_TICKS: u32 = 65_535;
 const TOO_MANY_TICKS: u16 = 16;
+const WAITS_TOO_LONG: u32 = 21;
 
 #[repr(C)]
 #[derive(Clone, Copy, Debug, PartialEq)]
@@ -69,5 +70,23 @@ impl Pair {
             self.tick();
         }
         0
+    }
+
+    /// 65536 times the refusal, plus the ticks that were done.
+    #[inline]
+    pub fn joined_wait(&mut self, unit: Unit, limit: u32) -> u32 {
+        if limit > MOST_TICKS {
+            return WAITS_TOO_LONG << 16;
+        }
+        if limit == 0 || self.device(unit).holds_unread() {
+            return 0;
+        }
+        self.settle();
+        let mut count = 0;
+        while count < limit && !self.device(unit).holds_unread() {
+            self.tick();
+            count += 1;
+        }
+        count
     }
 }

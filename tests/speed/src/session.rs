@@ -1,4 +1,4 @@
-//! The session text, for lines that all have a known shape: any other line panics.
+//! The session text, for lines of document 01's own records, without waits: any other line panics.
 
 use crate::chip::{joined_ticks, Chip};
 use std::io::Write;

@@ -4,6 +4,10 @@ use model::calls::{Call, Lent};
 use model::generate::ranges::{device, draws, spoilt};
 use speed::lent::Device;
 use speed::pair::Pair;
+use speed::pair::Unit::{A, B};
+
+/// Status bit 1.
+const UNREAD: u8 = 2;
 
 /// A joined tick by the calls of each device.
 fn tick([a, b]: &mut [Lent; 2]) -> u16 {
@@ -11,6 +15,16 @@ fn tick([a, b]: &mut [Lent; 2]) -> u16 {
     a.call(&Call::Receive(from_b));
     b.call(&Call::Receive(from_a));
     u16::from(2 * from_b + from_a)
+}
+
+/// Joined ticks until a unit shows an unread character, or the limit is used up; how many.
+fn wait(pair: &mut [Lent; 2], unit: usize, limit: u32) -> u32 {
+    let mut count = 0;
+    while count < limit && pair[unit].call(&Call::Peek).1[0] & UNREAD == 0 {
+        tick(pair);
+        count += 1;
+    }
+    count
 }
 
 #[test]
@@ -25,12 +39,17 @@ fn the_plain_pair_is_the_models() {
         let (mut fast, mut slow) = (Pair { a, b }, bytes.map(Lent::of_bytes));
         assert_eq!(fast.joined_run(65_536), 16);
         assert_eq!(fast.joined_run(0), 0);
+        assert_eq!(fast.joined_wait(A, 65_536), 21 << 16);
+        assert_eq!(fast.joined_wait(B, 0), 0);
         assert_eq!(fast, Pair { a, b });
         // the first run meets the devices as they were drawn, out of range too
         for n in [1 + draws.below(3), 0, draws.below(30), draws.below(1500)] {
             assert_eq!(fast.joined_run(n), 0);
             (0..n).for_each(|_| _ = tick(&mut slow));
             assert_eq!(fast.joined_tick(), tick(&mut slow));
+            let (unit, limit) = (draws.of(&[A, B]), draws.below(400));
+            let count = wait(&mut slow, unit as usize, limit);
+            assert_eq!(fast.joined_wait(unit, limit), count);
             let [a, b] = slow.each_ref().map(|lent| Device::of_bytes(lent.bytes()));
             assert_eq!(fast, Pair { a, b });
         }

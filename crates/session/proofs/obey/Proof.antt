@@ -27,7 +27,11 @@ returns-5 c = rw (c .before .before .r5 .given .1, c .ticking .ensures)
 
 returns-6 : tie.Need-returns-6
 unfolding obey
-returns-6 c = rw (c .before .enum-told .given .1, c .refused .ensures)
+returns-6 c = rw (c .before .before .r6 .given .1, c .waiting .ensures)
+
+returns-7 : tie.Need-returns-7
+unfolding obey
+returns-7 c = rw (c .before .enum-told .given .1, c .refused .ensures)
 
 pub obey-spec : {M : Type 1} → statement M
-obey-spec = tie.close (tie.spec (λ c. search needs) (λ c κs. search needs) (λ c κs. search needs) (λ c κs. search needs) (λ c. search needs) (λ c κs. search needs) (λ c. search needs) (λ c κs. search needs) (λ c κs. search needs) (λ c κs. search needs) (λ c. search needs) (λ c κs. search needs) (λ c κs. search needs) (λ c. search needs) (λ c κs. search needs) (λ c. search needs) (λ c κs. search needs) returns returns-2 returns-3 returns-4 returns-5 returns-6)
+obey-spec = tie.close (tie.spec (λ c. search needs) (λ c κs. search needs) (λ c κs. search needs) (λ c κs. search needs) (λ c. search needs) (λ c κs. search needs) (λ c. search needs) (λ c κs. search needs) (λ c κs. search needs) (λ c κs. search needs) (λ c. search needs) (λ c κs. search needs) (λ c κs. search needs) (λ c. search needs) (λ c κs. search needs) (λ c. search needs) (λ c κs. search needs) (λ c. search needs) (λ c κs. search needs) returns returns-2 returns-3 returns-4 returns-5 returns-6 returns-7)

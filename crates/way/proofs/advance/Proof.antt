@@ -8,9 +8,11 @@ use Rattle.line_rules.specs.Sending.{on}
 use Rattle.line_rules.proofs.Table.{both}
 use borrow.Author.Tests.{eqb-true}
 use Rattle.way_rules.specs.Calm.{least}
+use Rattle.way_rules.specs.Until.{unread}
 use Rattle.way_rules.proofs.Branches.{least-is}
 use Rattle.way_rules.proofs.AtOnce.{leap-is, leap-done, skip-done}
 use Rattle.way_rules.proofs.Flown.{step-parts}
+use Rattle.way_rules.proofs.Until.{calm-brings-none}
 use borrow.Author.Needs.{needs}
 use Rattle.way.proofs.advance.Statement.{statement}
 use Rattle.way.proofs.advance.Tie as tie
@@ -34,8 +36,10 @@ leapt-requires c κs =
 returns : tie.Need-returns
 returns c =
     let a = c .before .before .before .before .args in
-    let q = c .before .before .before .leap-looks in
-    leap-done (a .e) (a .w) (a .room) (q .result) (c .before .leap-ticks .result) _ (q .ensures .0) (c .before .before .if1 .taken) (q .ensures .1 (c .before .before .if1 .taken) .byte) (c .before .leap-ticks .ensures) (c .leapt .ensures)
+    let q = c .before .before .before .leap-looks in (
+      leap-done (a .e) (a .w) (a .room) (q .result) (c .before .leap-ticks .result) _ (q .ensures .0) (c .before .before .if1 .taken) (q .ensures .1 (c .before .before .if1 .taken) .byte) (c .before .leap-ticks .ensures) (c .leapt .ensures),
+      ap unread (c .leapt .ensures),
+    )
 
 skip-requires : tie.Need-skip-requires
 skip-requires c κs =
@@ -46,8 +50,11 @@ returns-2 : tie.Need-returns-2
 returns-2 c =
     let a = c .before .before .before .before .before .args in
     let q = c .before .before .before .before .leap-looks in
-    skip-done (a .e) (a .w) (a .room) (q .result) (c .before .least .result) _ (q .ensures .0) (omega (arith, c .before .before .before .if1 .left))
-    (c .before .least .ensures ∙ ap (λ (n : ℕ). least n (a .room)) (c .before .before .calm .ensures)) (c .skip .ensures)
+    let calm = least-is (c .before .before .calm .result) (a .room) (c .before .least .result) (c .before .least .ensures) in (
+      skip-done (a .e) (a .w) (a .room) (q .result) (c .before .least .result) _ (q .ensures .0) (omega (arith, c .before .before .before .if1 .left))
+          (c .before .least .ensures ∙ ap (λ (n : ℕ). least n (a .room)) (c .before .before .calm .ensures)) (c .skip .ensures),
+      ap unread (c .skip .ensures) ∙ calm-brings-none (a .e) (c .before .least .result) (a .w) (omega (arith, calm .first, c .before .before .calm .ensures)),
+    )
 
 pub advance-spec : {M : Type 1} → statement M
 advance-spec = tie.close (tie.spec (λ c κs. search needs) leap-ticks-requires leapt-requires returns (λ c κs. search needs) (λ c κs. search needs) skip-requires returns-2)

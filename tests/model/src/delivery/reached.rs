@@ -1,9 +1,30 @@
-//! What the sessions of demand 3 reach, by name; each name must be reached.
+//! What the sessions of demand 3 reach, by name; each name must be reached, and each of
+//! a wait often.
 
 use super::side::{Side, BREAK, RECEIVE, TRANSMIT};
 use super::way::{Way, MAY_WRITE, OVERRUN};
 use super::Call;
-use crate::session::Record;
+use crate::session::{Record, Unit};
+use std::cmp::Ordering;
+
+/// Of waits, which P12 of the change requests promises to end.
+pub const OF_WAITS: [&str; 15] = [
+    "refusal 21 in a set-up",
+    "wait of limit 0 in a set-up",
+    "wait for the one joined tick of a set-up",
+    "wait on a way, limit 0",
+    "wait on a way with a character there",
+    "wait on a way with nothing to come",
+    "wait on a way for a character to come, limit below L+D",
+    "wait on a way for a character to come, limit L+D",
+    "wait on a way for a character to come, limit above L+D",
+    "wait on a way for a frame that starts with its first tick",
+    "wait on a way for a frame that starts later",
+    "wait on a way that brings a character with its last tick",
+    "wait on a way that ends a tick before a character",
+    "wait on a way at the end that sends",
+    "wait on a way at the end that sends, with an arrival",
+];
 
 pub const NAMES: [&str; 36] = [
     "set-up mixed between units",
@@ -60,11 +81,14 @@ pub fn in_set_up(calls: &[Call]) -> Vec<&'static str> {
             Ok(record) => record,
             Err(number) => {
                 let name = format!("refusal {number} in a set-up");
-                reached.extend(NAMES.into_iter().find(|known| *known == name));
+                let mut names = NAMES.into_iter().chain(OF_WAITS);
+                reached.extend(names.find(|known| *known == name));
                 continue;
             }
         };
         let Some(unit) = record.unit() else {
+            let waits = matches!(record, Record::Wait(_, 0));
+            reached.extend(waits.then_some("wait of limit 0 in a set-up"));
             continue;
         };
         let again = called[unit as usize];
@@ -162,4 +186,50 @@ pub fn at_arrival(from: &Side, to: &Side) -> Vec<&'static str> {
         (high(to, 2), "arrival with CTS high at the receiver"),
         (high(to, 0), "arrival with DSR high at the receiver"),
     ])
+}
+
+/// A wait at a unit: the way before it and behind it.
+pub fn by_wait(before: &Way, after: &Way, unit: Unit, limit: u32) -> Vec<&'static str> {
+    let comes = !before.is_unread() && after.is_unread();
+    if unit == before.from {
+        return holding([
+            (true, "wait on a way at the end that sends"),
+            (
+                comes,
+                "wait on a way at the end that sends, with an arrival",
+            ),
+        ]);
+    }
+    let mut reached = holding([
+        (
+            comes && before.starts_next(),
+            "wait on a way for a frame that starts with its first tick",
+        ),
+        (
+            comes && before.starts_later(),
+            "wait on a way for a frame that starts later",
+        ),
+        (
+            comes && before.comes_in() == Some(limit),
+            "wait on a way that brings a character with its last tick",
+        ),
+        (
+            limit > 0 && !before.is_unread() && after.comes_next(),
+            "wait on a way that ends a tick before a character",
+        ),
+    ]);
+    reached.push(by_limit(before, limit));
+    reached
+}
+
+/// A wait at the end to which the way leads, by its limit.
+fn by_limit(way: &Way, limit: u32) -> &'static str {
+    match limit.cmp(&way.bound()) {
+        _ if limit == 0 => "wait on a way, limit 0",
+        _ if way.is_unread() => "wait on a way with a character there",
+        _ if !way.is_under_way() => "wait on a way with nothing to come",
+        Ordering::Less => "wait on a way for a character to come, limit below L+D",
+        Ordering::Equal => "wait on a way for a character to come, limit L+D",
+        Ordering::Greater => "wait on a way for a character to come, limit above L+D",
+    }
 }

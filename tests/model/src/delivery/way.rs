@@ -51,6 +51,26 @@ impl Way {
         self.frames.length
     }
 
+    /// L+D: what is written comes within so many joined ticks.
+    pub fn bound(&self) -> u32 {
+        self.frames.length + self.frames.stop_sample
+    }
+
+    /// The joined ticks up to the next one with which a character comes, if any does.
+    pub fn comes_in(&self) -> Option<u32> {
+        self.to_come.front().map(|&(comes, _)| comes - self.now)
+    }
+
+    /// Whether that character's frame begins with the next tick, or later still.
+    pub fn starts_next(&self) -> bool {
+        self.comes_in() == Some(1 + self.frames.stop_sample)
+    }
+
+    pub fn starts_later(&self) -> bool {
+        let comes_in = self.comes_in();
+        comes_in.is_some_and(|ticks| ticks > 1 + self.frames.stop_sample)
+    }
+
     /// Status bit 0 of the sender: nothing was written yet, or the latest frame
     /// has begun.
     pub fn may_write(&self) -> bool {
@@ -90,8 +110,7 @@ impl Way {
     /// Whether a character comes with the next tick, or came with this one and is
     /// unread.
     pub fn comes_next(&self) -> bool {
-        let next = self.to_come.front();
-        next.is_some_and(|&(comes, _)| comes == self.now + 1)
+        self.comes_in() == Some(1)
     }
 
     pub fn has_just_come(&self) -> bool {

@@ -59,11 +59,13 @@ fn goal(draws: &mut Draws, mode1: u8, clocks: u8) -> Side {
 
 fn step(ways: &mut Ways, draws: &mut Draws) {
     let unit = draws.of(&UNITS);
-    match draws.below(16) {
+    match draws.below(20) {
         0..=6 => ways.write(draws, unit),
         7..=8 => ways.fetch(unit),
         9..=10 => ways.pass(draws, unit),
         11..=12 => ways.watch(draws),
+        13..=14 => ways.converse(draws, unit),
+        15..=16 => ways.wait_for_one(draws, unit),
         _ => ways.wait(draws),
     }
 }

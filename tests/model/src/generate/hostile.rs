@@ -1,6 +1,6 @@
 //! Any number at any time: what no bench would do, with frames under way.
 
-use super::{accepted_mode, any_mode, Script, UNITS};
+use super::{accepted_mode, any_mode, limits, Script, UNITS};
 use crate::draw::Draws;
 use crate::session::{Record, Unit};
 
@@ -43,7 +43,7 @@ pub fn opening(draws: &mut Draws, index: u32) -> Vec<Record> {
 /// A record of any kind with any numbers, those that do something more often.
 pub fn record(draws: &mut Draws) -> Record {
     let unit = draws.of(&UNITS);
-    match draws.below(32) {
+    match draws.below(36) {
         0..=4 => Record::Write(unit, 0, draws.byte()),
         5..=6 => Record::Write(unit, 2, mode(draws)),
         7..=8 => Record::Write(unit, 3, command(draws)),
@@ -53,6 +53,7 @@ pub fn record(draws: &mut Draws) -> Record {
         17 => Record::Read(unit, draws.byte()),
         18..=19 => Record::Pins(unit, [(); 3].map(|()| level(draws))),
         20 => Record::Reset(unit),
+        21..=24 => Record::Wait(unit, limits::any(draws)),
         _ => Record::JoinedTicks(count(draws)),
     }
 }

@@ -18,6 +18,10 @@ pub fn session(draws: &mut Draws) -> Vec<u8> {
         input.extend(line(draws));
         input.push(b'\n');
     }
+    if draws.one_in(4) {
+        let wait = draws.of(&["B\tA\t9", "B\tB\t00020", "B\tB\t0", "B\tA\t65536"]);
+        input.extend(wait.bytes().chain([b'\n']));
+    }
     if draws.one_in(3) {
         input.pop();
     }
@@ -67,33 +71,43 @@ fn damaged(draws: &mut Draws) -> Vec<u8> {
     line
 }
 
-/// A number at its limit, just over it, or with too many digits.
+/// Numbers at their limits, just over them, and with too many digits.
+const LIMITS: [&str; 19] = [
+    "0",
+    "1",
+    "3",
+    "4",
+    "255",
+    "256",
+    "00001",
+    "00255",
+    "000255",
+    "999",
+    "65535",
+    "65536",
+    "065535",
+    "065536",
+    "99999",
+    "100000",
+    "4294967296",
+    "4294967551",
+    "18446744073709551616",
+];
+
+/// One of these, or a wait with no such unit or no number.
 fn limit(draws: &mut Draws) -> Vec<u8> {
-    let number = draws.of(&[
-        "0",
-        "1",
-        "3",
-        "4",
-        "255",
-        "256",
-        "00255",
-        "000255",
-        "999",
-        "65535",
-        "65536",
-        "065535",
-        "99999",
-        "100000",
-        "4294967296",
-        "4294967551",
-        "18446744073709551616",
-    ]);
-    let line = match draws.below(6) {
+    let number = draws.of(&LIMITS);
+    let none = draws.of(&["", "x", "-1", "+1", "1 ", " 1", "1."]);
+    let line = match draws.below(10) {
         0 => format!("W\tA\t{number}\t77"),
         1 => format!("W\tB\t1\t{number}"),
         2 => format!("R\tB\t{number}"),
         3 => format!("P\tA\t{number}\t0\t0"),
         4 => format!("P\tB\t1\t0\t{number}"),
+        5 => format!("B\tA\t{number}"),
+        6 => format!("B\tB\t{number}"),
+        7 => format!("B\t{}\t{number}", draws.of(&["a", "C", "AB", "", "0"])),
+        8 => format!("B\tB\t{none}"),
         _ => format!("L\t{number}"),
     };
     line.into_bytes()
@@ -119,7 +133,10 @@ fn fields(draws: &mut Draws) -> Vec<u8> {
 /// or bytes of any kind. None has a known shape: a record has 21 bytes at most.
 fn long(draws: &mut Draws) -> Vec<u8> {
     let length = draws.of(&[62, 63, 64, 65, 66, 67, 63, 64, 65, 66, 200]);
-    let good = good(draws);
+    let good = match draws.below(4) {
+        0 => b"B\tA\t7".to_vec(),
+        _ => good(draws),
+    };
     let missing = length - good.len();
     match draws.below(5) {
         0 => {

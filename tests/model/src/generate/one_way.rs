@@ -100,7 +100,7 @@ fn receiver_pins(draws: &mut Draws) -> [u8; 3] {
 fn step(ways: &mut Ways, draws: &mut Draws, from: Unit) {
     let to = other(from);
     let either = draws.of(&UNITS);
-    match draws.below(24) {
+    match draws.below(28) {
         0..=5 => ways.write(draws, from),
         6..=7 => ways.fetch(to),
         8..=9 => ways.pass(draws, either),
@@ -114,6 +114,9 @@ fn step(ways: &mut Ways, draws: &mut Draws, from: Unit) {
             ways.add(Record::Write(to, 0, draws.byte()));
         }
         18..=19 => ways.watch(draws),
+        20..=21 => ways.converse(draws, to),
+        22 => ways.wait_for_one(draws, to),
+        23 => ways.wait_for_one(draws, from),
         _ => ways.wait(draws),
     }
 }

@@ -1,9 +1,10 @@
 //! Random runs for the pair's C driver: two ends of a line in step, nearly so and not
 //! at all, any two devices, every length of a run on devices in range and out of it, a
 //! bench that is set up by calls, and long silence. The whole pair is looked at behind
-//! each run, and behind most ticks.
+//! each run, and behind most ticks. `waits` has the runs of waits.
 
 mod ends;
+mod waits;
 
 use super::any_mode;
 use super::ranges::{device, out_of_range, spoilt};
@@ -15,6 +16,8 @@ use crate::pair::{Answer, Call, Pair, RUN_LIMIT};
 use crate::session::{other, Unit, UNITS};
 
 pub const RUNS: u32 = 120;
+/// The runs of waits, whose seeds come behind those.
+pub const WAIT_RUNS: u32 = 60;
 /// A run ends with the episode that brings it over this number of lines.
 const LINES: usize = 800;
 /// The kind in the seeds, behind that of the boards.
@@ -42,12 +45,9 @@ pub fn run(index: u32) -> Vec<Line> {
     };
     let mut episode = index;
     while run.lines.len() < LINES {
-        match episode % 12 {
-            0 => run.any_devices(),
-            1 => run.lengths(),
-            2 | 3 => run.bench(),
-            4 => run.silence(),
-            _ => run.on_a_line(),
+        match index < RUNS {
+            true => run.episode(episode),
+            false => run.wait_episode(episode),
         }
         episode += 1;
     }
@@ -55,6 +55,16 @@ pub fn run(index: u32) -> Vec<Line> {
 }
 
 impl Run<'_> {
+    fn episode(&mut self, episode: u32) {
+        match episode % 12 {
+            0 => self.any_devices(),
+            1 => self.lengths(),
+            2 | 3 => self.bench(),
+            4 => self.silence(),
+            _ => self.on_a_line(),
+        }
+    }
+
     fn call(&mut self, call: Call) -> Answer {
         self.lines.push(Line::Call(call));
         self.pair.call(&call)
@@ -74,7 +84,7 @@ impl Run<'_> {
         }
     }
 
-    fn on(&mut self, unit: Unit, call: ChipCall) -> Vec<u8> {
+    fn on(&mut self, unit: Unit, call: ChipCall) -> Vec<u16> {
         self.call(Call::On(unit, call)).1
     }
 
@@ -202,6 +212,18 @@ impl Run<'_> {
     // A bench.
 
     fn bench(&mut self) {
+        self.set_up_bench();
+        for _ in 0..16 {
+            let unit = self.draws.of(&UNITS);
+            self.act(unit);
+            let ticks = self.ticks();
+            self.run(ticks);
+            let looked_at = self.draws.of(&UNITS);
+            self.look(looked_at);
+        }
+    }
+
+    fn set_up_bench(&mut self) {
         let modes = ends::modes(self.draws);
         for (unit, modes) in UNITS.into_iter().zip(modes) {
             let further = self.draws.byte() & 34;
@@ -216,14 +238,6 @@ impl Run<'_> {
             }
         }
         self.tick();
-        for _ in 0..16 {
-            let unit = self.draws.of(&UNITS);
-            self.act(unit);
-            let ticks = self.ticks();
-            self.run(ticks);
-            let looked_at = self.draws.of(&UNITS);
-            self.look(looked_at);
-        }
     }
 
     /// What is done between two runs: most often a character is written.

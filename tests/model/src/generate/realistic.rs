@@ -1,11 +1,13 @@
 //! A bench at work: both ends set up, characters written when they may be, reads
-//! mostly in time; now and then a break, a short pulse, a pin, a reset, or
-//! another mode at one end, and the longest count of ticks.
+//! mostly in time, by ticks that are counted and by waits; now and then a break, a
+//! short pulse, a pin, a reset, or another mode at one end, and the longest count of
+//! ticks.
 
-use super::{accepted_mode, any_mode, other, Script, UNITS};
+use super::{accepted_mode, any_mode, limits, other, Script, UNITS};
 use crate::chip::{decode, INTERNAL_RECEIVE_CLOCK, INTERNAL_TRANSMIT_CLOCK};
 use crate::draw::Draws;
 use crate::session::{Record, Unit};
+use crate::wait::WAIT_LIMIT;
 use crate::Format;
 
 /// Joined ticks of a session, more or less, and steps at most.
@@ -68,7 +70,7 @@ fn set_up(script: &mut Script, unit: Unit, mode1: u8, mode2: u8) {
 
 fn step(script: &mut Script, draws: &mut Draws) {
     let unit = draws.of(&UNITS);
-    match draws.below(32) {
+    match draws.below(46) {
         0..=11 => exchange(script, draws, unit),
         12..=15 => wait(script, draws, unit),
         16..=21 => look(script, unit),
@@ -79,6 +81,10 @@ fn step(script: &mut Script, draws: &mut Draws) {
         27 => start_again(script, draws, unit),
         28 => another_mode(script, draws, unit),
         29..=30 => switch_off(script, draws, unit),
+        31..=34 => wait_for_one(script, draws, unit),
+        35..=38 => converse(script, draws, unit),
+        39..=42 => wait_behind_break(script, draws, unit),
+        43..=44 => wait_with_both_full(script, draws, unit),
         _ => other_registers(script, draws, unit),
     }
 }
@@ -107,7 +113,41 @@ fn wait(script: &mut Script, draws: &mut Draws, unit: Unit) {
     let (length, stop) = (format.frame_length(), format.stop_sample());
     let any = draws.between(1, length);
     let portion = draws.of(&[1, format.factor, stop, stop + 1, length, length, any, any]);
-    script.tick(portion);
+    pass(script, draws, unit, portion);
+}
+
+/// So many ticks, or a wait with this limit, most often at the other end.
+fn pass(script: &mut Script, draws: &mut Draws, unit: Unit, ticks: u32) {
+    let there = other(unit);
+    match draws.below(6) {
+        0 => drop(script.wait(unit, ticks)),
+        1..=2 => drop(script.wait(there, ticks)),
+        _ => script.tick(ticks),
+    }
+}
+
+/// A wait with a limit of any kind, and most often a look at what ended it.
+fn wait_for_one(script: &mut Script, draws: &mut Draws, unit: Unit) {
+    let format = format(script, other(unit));
+    let limit = limits::limit(draws, &format);
+    script.wait(unit, limit);
+    if !draws.one_in(4) {
+        look(script, unit);
+    }
+}
+
+/// A character and another one behind it, where they may be written; a wait for each
+/// at the other end, which reads it.
+fn converse(script: &mut Script, draws: &mut Draws, unit: Unit) {
+    for _ in 0..2 {
+        if script.may_write(unit) {
+            script.write(unit, 0, draws.byte());
+            script.tick(1);
+        }
+    }
+    for _ in 0..2 {
+        wait_for_one(script, draws, other(unit));
+    }
 }
 
 /// The status, and what has come.
@@ -123,7 +163,12 @@ fn look(script: &mut Script, unit: Unit) {
 fn send_break(script: &mut Script, draws: &mut Draws, unit: Unit) {
     let format = format(script, unit);
     script.write(unit, 3, COMMAND | BREAK);
-    script.tick(draws.between(1, 3 * format.frame_length()));
+    let ticks = draws.between(1, 3 * format.frame_length());
+    pass(script, draws, unit, ticks);
+    // What the break was heard as is read, so that a wait may go on to what follows.
+    if draws.one_in(2) {
+        look(script, other(unit));
+    }
     if draws.one_in(2) {
         script.write(unit, 0, draws.byte());
     }
@@ -132,7 +177,8 @@ fn send_break(script: &mut Script, draws: &mut Draws, unit: Unit) {
         script.tick(draws.between(1, format.factor));
     }
     script.write(unit, 3, COMMAND);
-    script.tick(draws.between(1, format.frame_length()));
+    let ticks = draws.between(1, 2 * format.frame_length());
+    pass(script, draws, unit, ticks);
 }
 
 /// A break about as long as half a bit: a false start, or just not ("Receiving").
@@ -141,7 +187,44 @@ fn short_pulse(script: &mut Script, draws: &mut Draws, unit: Unit) {
     script.write(unit, 3, COMMAND | BREAK);
     script.tick(draws.between(1, half + 1));
     script.write(unit, 3, COMMAND);
-    script.tick(draws.between(half, 4 * half + 4));
+    let ticks = draws.between(half, 4 * half + 4);
+    pass(script, draws, unit, ticks);
+}
+
+/// A break, about half a bit long or longer, and a character that waits behind it, now
+/// and then one from the other end too: a wait at either end passes the guard.
+fn wait_behind_break(script: &mut Script, draws: &mut Draws, unit: Unit) {
+    let (format, there) = (format(script, unit), other(unit));
+    script.write(unit, 3, COMMAND | BREAK);
+    let half = format.half();
+    let most = draws.of(&[1, half.max(1), half + 1, 2 * format.frame_length()]);
+    script.tick(draws.between(1, most));
+    for unit in UNITS {
+        look(script, unit);
+    }
+    script.write(unit, 0, draws.byte());
+    if draws.one_in(2) && script.may_write(there) {
+        script.write(there, 0, draws.byte());
+    }
+    if !draws.one_in(4) {
+        script.write(unit, 3, COMMAND);
+    }
+    let limit = 2 * limits::about(draws, &format);
+    script.wait(draws.of(&[unit, there, there]), limit);
+    script.write(unit, 3, COMMAND);
+    look(script, there);
+}
+
+/// Both ends full, and a wait at one while the other is not read.
+fn wait_with_both_full(script: &mut Script, draws: &mut Draws, unit: Unit) {
+    for unit in UNITS {
+        fill(script, draws, unit);
+    }
+    let format = format(script, other(unit));
+    for _ in 0..3 {
+        script.wait(unit, 2 * limits::about(draws, &format));
+        look(script, unit);
+    }
 }
 
 /// SYN1, SYN2 and DLE in turn, the modes in turn, or the command.
@@ -229,10 +312,11 @@ fn longest(script: &mut Script, draws: &mut Draws) {
     if draws.one_in(3) {
         script.write(unit, 0, waits);
     }
-    script.add(Record::JoinedTicks(u16::MAX));
-    for unit in UNITS {
-        look(script, unit);
+    match draws.below(4) {
+        0 => drop(script.wait(draws.of(&UNITS), WAIT_LIMIT)),
+        _ => script.add(Record::JoinedTicks(u16::MAX)),
     }
+    UNITS.into_iter().for_each(|unit| look(script, unit));
     script.write(unit, 3, COMMAND);
     script.pins(unit, [0, 0, 0]);
     exchange(script, draws, unit);

@@ -2,7 +2,7 @@
 //! character written, that lead both ends to what they must hold before the one
 //! joined tick ("Receiving").
 
-use super::{any_mode, hostile, Script, ACCEPTED_MODES, UNITS};
+use super::{any_mode, hostile, limits, Script, ACCEPTED_MODES, UNITS};
 use crate::delivery::side::{Side, RESET_ERROR};
 use crate::draw::Draws;
 use crate::session::{Record, Unit};
@@ -13,7 +13,7 @@ const NEEDLESS: u32 = 24;
 const EARLIER: u32 = 20;
 
 /// Lines of no known shape, some near to what would spoil a set-up.
-const SHAPELESS: [&str; 10] = [
+const SHAPELESS: [&str; 14] = [
     "",
     "L\t65536",
     "L\t1\r",
@@ -24,6 +24,10 @@ const SHAPELESS: [&str; 10] = [
     "R\tC\t2",
     "P\tB\t1\t1",
     "Z\tA\t0",
+    "B\tA\t100000",
+    "B\tC\t1",
+    "b\tB\t1",
+    "B\tA",
 ];
 
 /// What was called so far: the two sides, and whether each is reset.
@@ -130,16 +134,18 @@ impl SetUp<'_> {
 }
 
 /// A call that changes nothing that demand 3 rests on: a read, a SYN write, no
-/// tick at all, or a call that is refused.
+/// tick at all, no wait, or a call that is refused.
 pub fn harmless(draws: &mut Draws, unit: Unit) -> Record {
     let too_high = draws.between(4, 255) as u8;
-    match draws.below(12) {
+    match draws.below(14) {
         0..=4 => Record::Read(unit, draws.below(4) as u8),
         5 => Record::Read(unit, too_high),
         6..=7 => Record::Write(unit, 1, draws.byte()),
         8 => Record::Write(unit, too_high, draws.byte()),
         9 => Record::Write(unit, 3, 64 | draws.byte()),
         10 => Record::Pins(unit, [draws.below(3) as u8, 2, draws.byte()]),
+        11 => Record::Wait(unit, 0),
+        12 => Record::Wait(unit, limits::too_high(draws)),
         _ => Record::JoinedTicks(0),
     }
 }

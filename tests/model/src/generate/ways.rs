@@ -2,10 +2,11 @@
 //! on the model's chips.
 
 use super::set_up::{harmless, shapeless};
-use super::{Script, UNITS};
+use super::{limits, other, Script, UNITS};
 use crate::delivery::way::Way;
 use crate::draw::Draws;
 use crate::session::{Record, Unit};
+use crate::wait::WAIT_LIMIT;
 
 /// Characters written each way, at most.
 const CHARACTERS: u32 = 8;
@@ -18,9 +19,13 @@ pub struct Ways {
 }
 
 impl Ways {
-    /// `script` is a set-up; its one joined tick is made here.
+    /// `script` is a set-up; its one joined tick is made here, now and then by a wait
+    /// that nothing ends.
     pub fn new(mut script: Script, draws: &mut Draws, ways: Vec<Way>) -> Ways {
-        script.tick(1);
+        match draws.below(6) {
+            0 => drop(script.wait(draws.of(&UNITS), 1)),
+            _ => script.tick(1),
+        }
         let counted = |way| (way, draws.between(1, CHARACTERS));
         let ways = ways.into_iter().map(counted).collect();
         Ways { script, ways }
@@ -49,6 +54,61 @@ impl Ways {
             self.add(Record::Read(unit, 1));
             self.add(Record::Read(unit, 0));
         }
+    }
+
+    /// A character from the other end, where it may be written, and a wait for it.
+    pub fn converse(&mut self, draws: &mut Draws, unit: Unit) {
+        self.write(draws, other(unit));
+        self.wait_for_one(draws, unit);
+    }
+
+    /// A wait for a character at `unit`, which is read then, most often. The logs say when
+    /// it ends on a way that is right; on another one only the chips can.
+    pub fn wait_for_one(&mut self, draws: &mut Draws, unit: Unit) {
+        let limit = self.limit(draws, unit);
+        let spent = self.script.wait(unit, limit);
+        for (way, _) in &mut self.ways {
+            (0..spent).for_each(|_| way.tick());
+        }
+        self.read_in_time();
+        if !draws.one_in(4) {
+            self.fetch(unit);
+        }
+    }
+
+    /// The limit of a wait at `unit`, by the way that leads there, if one does: L+D most
+    /// often, or about the tick with which a character comes.
+    fn limit(&self, draws: &mut Draws, unit: Unit) -> u32 {
+        let mut ways = self.ways.iter().map(|(way, _)| way);
+        let Some(way) = ways.find(|way| way.to() == unit) else {
+            return self.in_time(unit, draws.between(1, self.longest()));
+        };
+        let bound = way.bound();
+        let limit = match draws.below(16) {
+            0 => return limits::too_high(draws),
+            1 => 0,
+            2 => draws.between(1, 3),
+            3..=6 => way.comes_in().unwrap_or(bound) + draws.below(3) - 1,
+            7 if way.is_under_way() => WAIT_LIMIT,
+            8..=9 => draws.between(bound + 1, 2 * bound),
+            _ => bound,
+        };
+        self.in_time(unit, limit)
+    }
+
+    /// The limit of a wait at `unit`, or the lower one that makes no read too late.
+    fn in_time(&self, unit: Unit, limit: u32) -> u32 {
+        let mut ways: Vec<Way> = self.ways.iter().map(|(way, _)| way.clone()).collect();
+        for spent in 0..limit {
+            if ways.iter().any(|way| way.to() == unit && way.is_unread()) {
+                return limit;
+            }
+            if ways.iter().any(Way::must_read) {
+                return spent;
+            }
+            ways.iter_mut().for_each(Way::tick);
+        }
+        limit
     }
 
     /// A line that no way has to do with.
@@ -88,17 +148,18 @@ impl Ways {
         }
     }
 
-    /// One joined tick, and a read at each end where another tick would be too many.
+    /// One joined tick, and the reads behind it.
     fn tick(&mut self) {
         self.script.tick(1);
-        for place in 0..self.ways.len() {
-            let way = &mut self.ways[place].0;
-            way.tick();
-            if way.must_read() {
-                let to = way.to();
-                self.fetch(to);
-            }
-        }
+        self.ways.iter_mut().for_each(|(way, _)| way.tick());
+        self.read_in_time();
+    }
+
+    /// A read at each end where another tick would be too many.
+    fn read_in_time(&mut self) {
+        let late = self.ways.iter().filter(|(way, _)| way.must_read());
+        let ends: Vec<Unit> = late.map(|(way, _)| way.to()).collect();
+        ends.into_iter().for_each(|unit| self.fetch(unit));
     }
 
     /// L of the longer frames.

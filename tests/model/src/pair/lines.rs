@@ -30,6 +30,7 @@ impl fmt::Display for Line {
         match self {
             Line::Call(Call::Tick) => write!(f, "tick"),
             Line::Call(Call::Run(ticks)) => write!(f, "run {ticks}"),
+            Line::Call(Call::Wait(number, limit)) => write!(f, "wait {number} {limit}"),
             Line::Call(Call::On(unit, call)) => write!(f, "{} {call}", letter(*unit)),
             Line::Device(unit, bytes) => {
                 write!(f, "{} device {}", letter(*unit), hexadecimal(bytes))
@@ -85,6 +86,13 @@ impl Entry for Line {
             Line::Call(Call::Run(ticks)) => {
                 let fewer = smaller(ticks).into_iter().map(Call::Run);
                 fewer.map(Line::Call).collect()
+            }
+            Line::Call(Call::Wait(number, limit)) => {
+                let lower = smaller(limit).into_iter();
+                let lower = lower.map(|limit| Call::Wait(number, limit));
+                let others = smaller(number).into_iter();
+                let others = others.map(|number| Call::Wait(number, limit));
+                lower.chain(others).map(Line::Call).collect()
             }
             Line::Call(Call::On(unit, call)) => {
                 let calls = call.simpler().into_iter();

@@ -3,11 +3,13 @@
 //!
 //! `ticks` is what happens in a tick of a run, `ways` what a run does on each of its two
 //! ways, by the `facts` that are counted of it, `step` where a receiver stands to the
-//! frame that it hears.
+//! frame that it hears. `waits` is what a wait does, `hosts` what only a host's has.
 
 mod facts;
+mod hosts;
 mod step;
 mod ticks;
+pub mod waits;
 mod ways;
 
 use super::lines::Line;
@@ -70,6 +72,7 @@ impl Reach {
         counts.name_places(UNITS.len(), OF_CHIPS.map(by_end));
         counts.name_places(UNITS.len(), [by_end("refused")]);
         ways::name(&mut counts);
+        hosts::name(&mut counts);
         Reach { counts }
     }
 
@@ -107,6 +110,10 @@ impl Reach {
                 self.counts.count(&answer(levels));
             }
             Call::Run(ticks) => self.ran(pair, ticks, shown),
+            Call::Wait(number, limit) if shown => {
+                hosts::watch(&mut self.counts, pair, number, limit)
+            }
+            Call::Wait(..) => drop(pair.call(&call)),
             Call::On(unit, of_chip) => {
                 let (refusal, _) = pair.call(&call);
                 self.chip_called(unit as usize, &of_chip, refusal);
@@ -175,7 +182,7 @@ fn stands(called: &str) -> String {
     format!("{called} of a pair in range that no tick changes, shown")
 }
 
-fn answer(levels: u8) -> String {
+fn answer(levels: u16) -> String {
     format!("tick that answers {levels}")
 }
 

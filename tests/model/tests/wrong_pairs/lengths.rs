@@ -46,7 +46,7 @@ fn longest_cut(pair: &mut Pair, call: &Call) -> Answer {
 }
 
 fn refused(refusal: u8) -> Answer {
-    (refusal, vec![refusal])
+    (refusal, vec![refusal.into()])
 }
 
 fn limit_refused(pair: &mut Pair, call: &Call) -> Answer {

@@ -1,17 +1,21 @@
-//! Wrong pairs: what each does with a call. `all` names them.
+//! Wrong pairs: what each does with a call. `all` names them, but for those that wait
+//! wrongly, which `all_waits` names.
 
 mod edges;
 mod lengths;
+mod limits;
 mod lines;
 mod ranges;
 mod receivers;
 mod senders;
 mod step;
+mod waits;
 
 use model::calls::{Lent, DEVICE_BYTES};
 use model::pair::lines::Make;
-use model::pair::{Answer, Call, Pair, RUN_LIMIT};
+use model::pair::{named, Answer, Call, Pair, RUN_LIMIT};
 use model::session::{Unit, UNITS};
+use model::wait::WAIT_LIMIT;
 
 pub type Wrong = (&'static str, Make);
 
@@ -26,6 +30,27 @@ pub fn all() -> Vec<Wrong> {
         step::ALL,
     ]
     .concat()
+}
+
+pub fn all_waits() -> Vec<Wrong> {
+    [waits::ALL, limits::ALL].concat()
+}
+
+/// Waits that are done otherwise, by the ticks that they say they spend; other calls are
+/// right, also waits that are refused.
+fn waited(pair: &mut Pair, call: &Call, wait: impl Fn(&mut Pair, Unit, u32) -> u16) -> Answer {
+    match *call {
+        Call::Wait(number, limit @ ..=WAIT_LIMIT) => {
+            let spent = wait(pair, named(number), limit);
+            (0, vec![0, spent])
+        }
+        _ => pair.call(call),
+    }
+}
+
+/// The ticks of a right wait, whose limit is not too high.
+fn right(pair: &mut Pair, unit: Unit, limit: u32) -> u16 {
+    pair.wait(unit, limit).expect("no limit that is too high")
 }
 
 /// Runs that are done otherwise; other calls are right, also runs of 0.
@@ -91,6 +116,10 @@ fn change(pair: &mut Pair, unit: Unit, change: impl Fn(&mut Bytes)) {
     let mut bytes = pair.end(unit).bytes();
     change(&mut bytes);
     *pair.end_mut(unit) = Lent::of_bytes(bytes);
+}
+
+fn is_out(lent: &Lent) -> bool {
+    matches!(lent, Lent::OutOfRange(_))
 }
 
 fn settle(pair: &mut Pair) {

@@ -1,6 +1,6 @@
 //! Devices out of range that are settled, or not.
 
-use super::{ran, settle, Bytes, Wrong};
+use super::{is_out, ran, settle, Bytes, Wrong};
 use model::calls::Lent;
 use model::pair::{Answer, Call, Pair, RUN_TOO_LONG};
 use model::session::UNITS;
@@ -13,10 +13,6 @@ pub const ALL: &[Wrong] = &[
     ("a run leaves b out of range", b_left),
     ("out of range is taken as zeros", taken_as_zeros),
 ];
-
-fn is_out(lent: &Lent) -> bool {
-    matches!(lent, Lent::OutOfRange(_))
-}
 
 fn none_settles(pair: &mut Pair, call: &Call) -> Answer {
     if *call == Call::Run(0) {

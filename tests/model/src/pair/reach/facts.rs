@@ -214,11 +214,11 @@ pub fn facts() -> impl Iterator<Item = &'static Fact> {
 }
 
 impl Way {
-    fn always(&self, event: &str) -> bool {
+    pub fn always(&self, event: &str) -> bool {
         self.times(event) == self.ticks
     }
 
-    fn arrivals(&self) -> u32 {
+    pub fn arrivals(&self) -> u32 {
         self.times(ARRIVAL)
     }
 
@@ -227,11 +227,11 @@ impl Way {
     }
 
     /// A guard falls, and no break sets it anew.
-    fn falls(&self) -> bool {
+    pub fn falls(&self) -> bool {
         self.times(GUARD_FALLS) > 0 && self.times(BREAK) == 0
     }
 
-    fn keeps_waiting(&self) -> bool {
+    pub fn keeps_waiting(&self) -> bool {
         self.from[0].waiting && self.times(BEGINS) == 0 && !self.from[1].sending
     }
 

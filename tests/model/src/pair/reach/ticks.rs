@@ -26,6 +26,9 @@ pub const BREAK: &str = "a tick of a break";
 pub const GUARD_FALLS: &str = "a guard that falls";
 pub const WAITS_AT_ZERO: &str = "a 0 while the receiver waits";
 pub const OVERRUNS: &str = "an overrun flag";
+pub const FALSE_START: &str = "a false start";
+pub const PARITY_FLAG: &str = "a parity flag";
+pub const FRAMING_FLAG: &str = "a framing flag";
 
 type Event = (&'static str, fn(&Tick) -> bool);
 
@@ -37,7 +40,7 @@ pub const EVENTS: [Event; 22] = [
     (ENDS, |tick| tick.ends()),
     (START, |tick| tick.start()),
     ("a look within a character", |tick| tick.look()),
-    ("a false start", |tick| tick.false_start()),
+    (FALSE_START, |tick| tick.false_start()),
     (ARRIVAL, |tick| tick.arrival()),
     (BREAK, |tick| tick.breaks()),
     (GUARD_FALLS, |tick| tick.from[1].guard < tick.from[0].guard),
@@ -47,8 +50,8 @@ pub const EVENTS: [Event; 22] = [
     (WAITS_AT_ZERO, |tick| {
         tick.to[0].listening && tick.to[0].waits && tick.level == 0
     }),
-    ("a parity flag", |tick| tick.sets(PARITY)),
-    ("a framing flag", |tick| tick.sets(FRAMING)),
+    (PARITY_FLAG, |tick| tick.sets(PARITY)),
+    (FRAMING_FLAG, |tick| tick.sets(FRAMING)),
     ("both flags by one character", |tick| {
         tick.sets(PARITY) && tick.sets(FRAMING)
     }),
@@ -80,7 +83,7 @@ pub const EVENTS: [Event; 22] = [
 ];
 
 impl Tick<'_> {
-    fn begins(&self) -> bool {
+    pub fn begins(&self) -> bool {
         !self.from[0].sending && self.from[1].sending
     }
 

@@ -3,7 +3,7 @@
 
 use super::facts::{facts, OF_BOTH};
 use super::step;
-use super::ticks::{Tick, EDGES, ENDS, EVENTS};
+use super::ticks::{Tick, ARRIVAL, EDGES, ENDS, EVENTS};
 use super::WAYS;
 use crate::chip::View;
 use crate::counts::Counts;
@@ -24,6 +24,8 @@ pub struct Way {
     beside: [[bool; EDGES]; 3],
     /// The factors by which characters that started were sent and heard.
     factors: Vec<[u32; 2]>,
+    /// The latest tick with which a frame began; 0 where none did.
+    pub begun: u32,
 }
 
 /// Where a run ends: the places of `beside`, by the event's.
@@ -97,7 +99,7 @@ fn views(pair: &Pair) -> [View; 2] {
 }
 
 /// The ways of a run, tick by tick, and of the tick behind it.
-fn run(pair: &mut Pair, ticks: u32) -> [Way; WAYS] {
+pub fn run(pair: &mut Pair, ticks: u32) -> [Way; WAYS] {
     let [a, b] = views(pair);
     let mut ways = [Way::new(ticks, a, b), Way::new(ticks, b, a)];
     for at in 1..=ticks {
@@ -131,6 +133,7 @@ impl Way {
             times: [0; EVENTS.len()],
             beside: [[false; EDGES]; 3],
             factors: Vec::new(),
+            begun: 0,
         }
     }
 
@@ -146,6 +149,9 @@ impl Way {
                 *times += u32::from(happened);
             }
             self.factors.extend(tick.factors());
+            if tick.begins() {
+                self.begun = at;
+            }
             (self.from[1], self.to[1]) = (*tick.from[1], *tick.to[1]);
         }
     }
@@ -169,6 +175,14 @@ impl Way {
         for factors in &self.factors {
             counts.count_place(&sent_and_heard(*factors), place);
         }
+    }
+
+    /// Whether the tick behind it would bring a character.
+    pub fn next_is_arrival(&self) -> bool {
+        let place = EVENTS[..EDGES]
+            .iter()
+            .position(|(known, _)| *known == ARRIVAL);
+        self.beside[2][place.expect("an event that a run may end beside")]
     }
 
     /// How many of its ticks had an event.

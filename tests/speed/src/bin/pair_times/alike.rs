@@ -18,27 +18,30 @@ enum Call {
     Pins(Unit, [u8; 3]),
     Tick,
     Run(u32),
+    Wait(Unit, u32),
 }
 
 impl Call {
-    fn by_proved(self, pair: &mut Pair) -> u16 {
-        match self {
+    fn by_proved(self, pair: &mut Pair) -> u32 {
+        u32::from(match self {
             Call::Read(unit, address) => proved::read(pair.device(unit), address),
             Call::Write(unit, address, value) => proved::write(pair.device(unit), address, value),
             Call::Pins(unit, levels) => proved::set_pins(pair.device(unit), levels),
             Call::Tick => proved::joined_tick(pair),
             Call::Run(n) => proved::joined_run(pair, n),
-        }
+            Call::Wait(unit, limit) => return proved::joined_wait(pair, unit, limit),
+        })
     }
 
-    fn by_plain(self, pair: &mut Pair) -> u16 {
-        match self {
+    fn by_plain(self, pair: &mut Pair) -> u32 {
+        u32::from(match self {
             Call::Read(unit, address) => pair.device(unit).read(address).into(),
             Call::Write(unit, address, value) => pair.device(unit).write(address, value).into(),
             Call::Pins(unit, [dsr, dcd, cts]) => pair.device(unit).set_pins(dsr, dcd, cts).into(),
             Call::Tick => pair.joined_tick(),
             Call::Run(n) => pair.joined_run(n),
-        }
+            Call::Wait(unit, limit) => return pair.joined_wait(unit, limit),
+        })
     }
 }
 
@@ -54,15 +57,17 @@ fn both(pair: &mut Pair, call: Call) -> Result<(), String> {
     ))
 }
 
-/// Short runs mostly, seldom some at the edges of the call.
+/// Short runs and waits mostly, seldom some at the edges of the call.
 fn run(draws: &mut Draws) -> Call {
     let edge = draws.of(&[0, 65_535, 65_536, 65_536 + 7, u32::MAX]);
     let short = draws.of(&[4, 40, 200, 1600]);
-    Call::Run(if draws.one_in(128) {
+    let ticks = if draws.one_in(128) {
         edge
     } else {
         draws.below(short)
-    })
+    };
+    let unit = draws.of(&[A, B]);
+    draws.of(&[Call::Run(ticks), Call::Wait(unit, ticks)])
 }
 
 /// A write that is mostly accepted, of a character more often than not.

@@ -1,4 +1,4 @@
-//! The times of the two calls on a lent pair beside plain Rust chips, ticked one tick at a time, as native code in one
+//! The times of the three calls on a lent pair beside plain Rust chips, ticked one tick at a time, as native code in one
 //! program, into which `pair/run` links the proved code. The sides take turns in small batches, and the best batch counts;
 //! a checksum of all that is read holds them together. The plain chips are those of the plain program (`chip.rs`), which
 //! check no range. First a long pseudo-random run holds the calls to a plain pair by all its fields (`alike.rs`).
@@ -7,7 +7,7 @@ mod alike;
 mod proved;
 
 use proved::Proved;
-use speed::chip::{joined_tick, joined_ticks, Chip};
+use speed::chip::{joined_tick, joined_ticks, joined_wait, Chip};
 use speed::input::{characters, Frames, FULL_1, FULL_16, FULL_64};
 use speed::pair::Unit::{self, A, B};
 use speed::turns::by_turns;
@@ -23,6 +23,8 @@ trait Side {
     /// 2 times b's level, plus a's.
     fn tick(&mut self) -> u16;
     fn run(&mut self, n: u16);
+    /// The ticks that it took.
+    fn wait(&mut self, unit: Unit, limit: u16) -> u16;
 }
 
 struct Plain {
@@ -67,6 +69,13 @@ impl Side for Plain {
     fn run(&mut self, n: u16) {
         joined_ticks(&mut self.a, &mut self.b, n);
     }
+
+    fn wait(&mut self, unit: Unit, limit: u16) -> u16 {
+        match unit {
+            A => joined_wait(&mut self.b, &mut self.a, limit),
+            B => joined_wait(&mut self.a, &mut self.b, limit),
+        }
+    }
 }
 
 // == what both sides do ==
@@ -77,8 +86,14 @@ const LONG: u16 = 65_535;
 enum Traffic {
     /// Runs of the most ticks, with nothing written.
     Long,
+    /// Waits for as many, in which nothing comes.
+    Vain,
+    /// Waits for a character that is there.
+    There,
     /// A run for each frame, with its two writes before it and its two reads behind it.
     Full(&'static Frames),
+    /// The same with a wait for A's character in place of the run: full where that comes before its frame's last tick.
+    Waits(&'static Frames),
     /// The same, but B's frames lie half a frame behind A's: two runs for each frame.
     Apart(&'static Frames),
     /// Single ticks, with nothing written.
@@ -86,7 +101,7 @@ enum Traffic {
     /// Single ticks of a full line.
     FullSingle(&'static Frames),
 }
-use Traffic::{Apart, Full, FullSingle, Long, Single};
+use Traffic::{Apart, Full, FullSingle, Long, Single, There, Vain, Waits};
 
 /// A line of two chips with this mode 1, or none, and these commands.
 struct Row {
@@ -103,16 +118,21 @@ const OFF: u8 = 0;
 const NOT_FULL: u8 = 0b0011_1110;
 const MODE: Option<u8> = Some(FULL_16.mode1);
 
-const ROWS: [Row; 12] = [
+const ROWS: [Row; 17] = [
     still("run of 65535, idle", MODE, [ON; 2], Long),
     still("run of 65535, break", MODE, [BREAK; 2], Long),
     still("run of 65535, break of one end", MODE, [BREAK, ON], Long),
     still("run of 65535, off", MODE, [OFF; 2], Long),
     still("run of 65535, mode unset", None, [ON; 2], Long),
+    still("wait of 65535, idle", MODE, [ON; 2], Vain),
+    still("wait of 65535, break of one end", MODE, [BREAK, ON], Vain),
+    still("wait, a character there", MODE, [ON; 2], There),
     full("full, 64 ticks a bit", &FULL_64, Full(&FULL_64)),
     full("full, 16 ticks a bit", &FULL_16, Full(&FULL_16)),
     full("full, 1 tick a bit", &FULL_1, Full(&FULL_1)),
     full("full, 16, half a frame apart", &FULL_16, Apart(&FULL_16)),
+    full("full, 64, by waits", &FULL_64, Waits(&FULL_64)),
+    full("full, 16, by waits", &FULL_16, Waits(&FULL_16)),
     still("single tick, idle", MODE, [ON; 2], Single),
     full("single tick, full, 16", &FULL_16, FullSingle(&FULL_16)),
     full("single tick, full, 1", &FULL_1, FullSingle(&FULL_1)),
@@ -162,8 +182,13 @@ impl Row {
         side.write(A, 3, self.commands[0]);
         side.write(B, 3, self.commands[1]);
         match self.traffic {
-            Long | Single => side.run(LONG),
+            Long | Vain | Single => side.run(LONG),
+            There => {
+                write_both(&mut side, 0);
+                side.run(LONG);
+            }
             Full(_) | FullSingle(_) => write_both(&mut side, 0),
+            Waits(_) => {}
             Apart(frames) => {
                 side.write(A, 0, characters(0)[0]);
                 side.run(frames.ticks / 2);
@@ -179,7 +204,16 @@ impl Row {
         let mut sum = 0;
         match self.traffic {
             Long => (0..times).for_each(|_| side.run(LONG)),
+            Vain => (0..times).for_each(|_| assert_eq!(side.wait(A, LONG), LONG)),
+            There => (0..times).for_each(|_| assert_eq!(side.wait(B, LONG), 0)),
             Single => (0..times).for_each(|_| sum = summed(sum, side.tick())),
+            Waits(_) => {
+                for k in 1..=times {
+                    write_both(side, k);
+                    sum = summed(sum, side.wait(B, LONG));
+                    sum = read_both(side, 0, sum);
+                }
+            }
             Full(frames) => {
                 for k in 1..=times {
                     write_both(side, k);
@@ -211,25 +245,25 @@ impl Row {
     /// left alone by what else the machine does.
     fn times(&self) -> [usize; 2] {
         match self.traffic {
-            Long => [256, 1],
-            Single => [4096, 4096],
+            Long | Vain => [256, 1],
+            Single | There => [4096, 4096],
             _ => [64, 64],
         }
     }
 
-    /// The calls that the traffic takes, and the ticks.
+    /// The calls that the traffic takes, and the ticks; a wait that takes none counts as one.
     fn size(&self) -> [u16; 2] {
         match self.traffic {
-            Long => [1, LONG],
-            Single => [1, 1],
-            Full(frames) => [1, frames.ticks],
+            Long | Vain => [1, LONG],
+            Single | There => [1, 1],
+            Full(frames) | Waits(frames) => [1, frames.ticks],
             Apart(frames) => [2, frames.ticks],
             FullSingle(frames) => [frames.ticks; 2],
         }
     }
 
     fn is_full(&self) -> bool {
-        matches!(self.traffic, Full(_) | Apart(_) | FullSingle(_))
+        matches!(self.traffic, Full(_) | Waits(_) | Apart(_) | FullSingle(_))
     }
 
     fn measure(&self) -> Result<(), String> {

@@ -11,6 +11,7 @@ extern "C" {
     fn ins2651_pins(device: *mut Device, dsr: u8, dcd: u8, cts: u8) -> u16;
     fn ins2651_joined_tick(pair: *mut Pair) -> u16;
     fn ins2651_joined_run(pair: *mut Pair, n: u32) -> u16;
+    fn ins2651_joined_wait(pair: *mut Pair, unit: u32, limit: u32) -> u32;
 }
 
 // SAFETY: each call reads and changes what is lent to it, for any bytes in it.
@@ -33,6 +34,10 @@ pub fn joined_tick(pair: &mut Pair) -> u16 {
 
 pub fn joined_run(pair: &mut Pair, n: u32) -> u16 {
     unsafe { ins2651_joined_run(pair, n) }
+}
+
+pub fn joined_wait(pair: &mut Pair, unit: Unit, limit: u32) -> u32 {
+    unsafe { ins2651_joined_wait(pair, unit as u32, limit) }
 }
 
 pub struct Proved(Pair);
@@ -60,5 +65,9 @@ impl Side for Proved {
 
     fn run(&mut self, n: u16) {
         joined_run(&mut self.0, n.into());
+    }
+
+    fn wait(&mut self, unit: Unit, limit: u16) -> u16 {
+        joined_wait(&mut self.0, unit, limit.into()) as u16
     }
 }
