@@ -102,6 +102,16 @@ enum {
 #define INS2651_REFUSAL(answer) ((uint8_t)((answer) >> 8))
 #define INS2651_VALUE(answer) ((uint8_t)((answer) & 255))
 
+/* The two tallies of a chip, by the sheet's names of its clocks: ticks of the transmit clock and of the receive clock since reset, modulo
+ * 4,294,967,296. They are two types, so that one is not handed over as the other: what happens at one clock has no time on the other. */
+typedef struct ins2651_txc {
+    uint32_t ticks;
+} ins2651_txc;
+
+typedef struct ins2651_rxc {
+    uint32_t ticks;
+} ins2651_rxc;
+
 /* The registers; `accepted` is 1 once a mode 1 was accepted, `modes` and `syns` are the two pointers. */
 typedef struct ins2651_registers {
     uint8_t mode1;
@@ -138,12 +148,15 @@ typedef struct ins2651_frame {
     uint16_t place;
 } ins2651_frame;
 
-/* The sender: its frame, the character that waits (where `full` is 1), the guard that a break left. */
+/* The sender: its frame, the character that waits (where `full` is 1), the guard that a break left; the transmit tally after the first
+ * tick of its last frame (0 where none since reset), and the tally itself. */
 typedef struct ins2651_sender {
     ins2651_frame frame;
     uint8_t holding;
     uint8_t full;
     uint8_t guard;
+    ins2651_txc start;
+    ins2651_txc tally;
 } ins2651_sender;
 
 /* Where the receiver stands between two samples. */
@@ -155,12 +168,15 @@ typedef struct ins2651_sampling {
     uint16_t look;
 } ins2651_sampling;
 
-/* The receiver: where it stands, the format of the character under way, the character last held, unread or not. */
+/* The receiver: where it stands, the format of the character under way, the character last held, unread or not; that character's stamp,
+ * which is the receive tally after its stop sample's tick (0 where none since reset), and the tally itself. */
 typedef struct ins2651_receiver {
     ins2651_sampling state;
     ins2651_format format;
     uint8_t holding;
     uint8_t unread;
+    ins2651_rxc stamp;
+    ins2651_rxc tally;
 } ins2651_receiver;
 
 /* The three error flags, the empty-mark and the change-mark. */
@@ -184,14 +200,16 @@ typedef struct ins2651 {
 
 /* The initialiser of a device just reset: its inputs are high, all else is 0. */
 #define INS2651_RESET \
-    { {0, 0, 0, 0, 0, 0, 0, 0, 0},              /* registers */ \
-      {1, 1, 1},                                /* pins */ \
-      {{0, {0, 0, 0, 0, 0}, 0}, 0, 0, 0},       /* sender */ \
-      {{0, 0, 0, 0, 0}, {0, 0, 0, 0, 0}, 0, 0}, /* receiver */ \
-      {0, 0, 0, 0, 0} }                         /* flags */
+    { {0, 0, 0, 0, 0, 0, 0, 0, 0},                        /* registers */ \
+      {1, 1, 1},                                          /* pins */ \
+      {{0, {0, 0, 0, 0, 0}, 0}, 0, 0, 0, {0}, {0}},       /* sender */ \
+      {{0, 0, 0, 0, 0}, {0, 0, 0, 0, 0}, 0, 0, {0}, {0}}, /* receiver */ \
+      {0, 0, 0, 0, 0} }                                   /* flags */
 
-/* The layout is the archive's. Bytes 23, 37 and 43 are padding: no call reads it and none keeps it, so compare devices
- * field by field and not by their bytes. INS2651_HOLDS is for the headers that rest on this one too. */
+/* The layout is the archive's. Bytes 23, 45 to 47 and 61 to 63 are padding: no call reads it and none keeps it, so compare devices
+ * field by field and not by their bytes. Before request P4 a device had 44 bytes, without the stamps and tallies; up to byte 22 it is as
+ * it was, the receiver then began at 24 and the flags at 38. Devices kept in files are to be read field by field.
+ * INS2651_HOLDS is for the headers that rest on this one too. */
 #ifdef __cplusplus
 #define INS2651_HOLDS(fact) static_assert(fact, #fact)
 #else
@@ -199,7 +217,7 @@ typedef struct ins2651 {
 #endif
 #define INS2651_AT(field, offset, size) \
     INS2651_HOLDS(offsetof(ins2651, field) == (offset) && sizeof(((ins2651 *)0)->field) == (size))
-INS2651_HOLDS(sizeof(ins2651) == 44);
+INS2651_HOLDS(sizeof(ins2651) == 64);
 INS2651_AT(registers.mode1, 0, 1);
 INS2651_AT(registers.mode2, 1, 1);
 INS2651_AT(registers.accepted, 2, 1);
@@ -222,23 +240,27 @@ INS2651_AT(sender.frame.place, 18, 2);
 INS2651_AT(sender.holding, 20, 1);
 INS2651_AT(sender.full, 21, 1);
 INS2651_AT(sender.guard, 22, 1);
-INS2651_AT(receiver.state.phase, 24, 1);
-INS2651_AT(receiver.state.countdown, 25, 1);
-INS2651_AT(receiver.state.value, 26, 1);
-INS2651_AT(receiver.state.wrong, 27, 1);
-INS2651_AT(receiver.state.look, 28, 2);
-INS2651_AT(receiver.format.factor, 30, 1);
-INS2651_AT(receiver.format.length, 31, 1);
-INS2651_AT(receiver.format.parity, 32, 1);
-INS2651_AT(receiver.format.even, 33, 1);
-INS2651_AT(receiver.format.stop, 34, 1);
-INS2651_AT(receiver.holding, 35, 1);
-INS2651_AT(receiver.unread, 36, 1);
-INS2651_AT(flags.framing, 38, 1);
-INS2651_AT(flags.overrun, 39, 1);
-INS2651_AT(flags.parity, 40, 1);
-INS2651_AT(flags.empty, 41, 1);
-INS2651_AT(flags.change, 42, 1);
+INS2651_AT(sender.start.ticks, 24, 4);
+INS2651_AT(sender.tally.ticks, 28, 4);
+INS2651_AT(receiver.state.phase, 32, 1);
+INS2651_AT(receiver.state.countdown, 33, 1);
+INS2651_AT(receiver.state.value, 34, 1);
+INS2651_AT(receiver.state.wrong, 35, 1);
+INS2651_AT(receiver.state.look, 36, 2);
+INS2651_AT(receiver.format.factor, 38, 1);
+INS2651_AT(receiver.format.length, 39, 1);
+INS2651_AT(receiver.format.parity, 40, 1);
+INS2651_AT(receiver.format.even, 41, 1);
+INS2651_AT(receiver.format.stop, 42, 1);
+INS2651_AT(receiver.holding, 43, 1);
+INS2651_AT(receiver.unread, 44, 1);
+INS2651_AT(receiver.stamp.ticks, 48, 4);
+INS2651_AT(receiver.tally.ticks, 52, 4);
+INS2651_AT(flags.framing, 56, 1);
+INS2651_AT(flags.overrun, 57, 1);
+INS2651_AT(flags.parity, 58, 1);
+INS2651_AT(flags.empty, 59, 1);
+INS2651_AT(flags.change, 60, 1);
 #undef INS2651_AT
 
 /* Resets the device, all three inputs high; answers 0. */
@@ -260,7 +282,8 @@ uint16_t ins2651_transmit(ins2651 *device);
 uint16_t ins2651_receive(ins2651 *device, uint8_t level);
 
 /* Does both ticks of a device: a receive tick with the line at a level, then a transmit tick; answers 256 times the refusal, plus the
- * level sent; a level that is refused does neither tick, and the 0 beside its refusal is no level. It checks the device once, where ins2651_receive and ins2651_transmit do so twice.
+ * level sent; a level that is refused does neither tick, and the 0 beside its refusal is no level. It checks the device once, where
+ * ins2651_receive and ins2651_transmit do so twice.
  * After one ins2651_transmit of each of two devices, n rounds in which each is ticked with the level that the other sent last are n joined
  * ticks and one more transmit tick of each: examples/host/two_ticks.c. */
 uint16_t ins2651_tick(ins2651 *device, uint8_t level);
@@ -275,6 +298,18 @@ uint16_t ins2651_peek(ins2651 *device);
 /* Answers 1 where the device is in range (docs/RANGES.md), else 0; the device stays as it is. For a host that keeps devices in files: a
  * call on one that is out of range takes it as one just reset. */
 uint16_t ins2651_in_range(ins2651 *device);
+
+/* The stamp of the character that a read of address 0 gives: the receive tally after its stop sample's tick; 0 where none has come since
+ * reset. A read leaves it. These four answer 0 for a device out of range, and leave the device as it is. (The archive answers a number, and
+ * on x86-64 a struct of one number is answered as that number.) */
+ins2651_rxc ins2651_stamp(ins2651 *device);
+
+/* The transmit tally after the first tick of the last frame; 0 where none has begun since reset. */
+ins2651_txc ins2651_start(ins2651 *device);
+
+/* The tallies: ticks since reset, whatever is enabled, set or under way. A receive tick that is refused counts nothing. */
+ins2651_txc ins2651_transmit_tally(ins2651 *device);
+ins2651_rxc ins2651_receive_tally(ins2651 *device);
 
 #ifdef __cplusplus
 }

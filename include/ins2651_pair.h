@@ -64,7 +64,7 @@ typedef struct ins2651_pair {
 #define INS2651_PAIR_RESET {INS2651_RESET, INS2651_RESET}
 
 /* The layout is the archive's. The padding of each device is neither read nor kept: compare them field by field. */
-INS2651_HOLDS(sizeof(ins2651_pair) == 88);
+INS2651_HOLDS(sizeof(ins2651_pair) == 128);
 INS2651_HOLDS(offsetof(ins2651_pair, a) == 0 && offsetof(ins2651_pair, b) == sizeof(ins2651));
 
 /* Does a joined tick; answers the two levels sent, 2 times b's plus a's: 0 to 3, by the bits named above. */

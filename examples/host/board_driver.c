@@ -5,8 +5,8 @@
  *     count CHANNELS                   0                  how many channels they lend from now on, 0 to 9, of this board
  *     board NUMBER SELECT TMASK RMASK  0                  sets the board's four fields
  *     fields                           NUMBER SELECT TMASK RMASK
- *     device PLACE HEX                 0                  the 44 bytes at a place 0 to 8 of the room are set, by exactly 88 digits 0-9, a-f
- *     bytes PLACE                      HEX                its 44 bytes, the padding as 00
+ *     device PLACE HEX                 0                  the 64 bytes at a place 0 to 8 of the room are set, by exactly 128 digits 0-9, a-f
+ *     bytes PLACE                      HEX                its 64 bytes, the padding as 00
  *     in PORT                          REFUSAL VALUE
  *     out PORT VALUE                   REFUSAL 0
  *     reset                            REFUSAL 0
@@ -20,7 +20,7 @@
  * bits from 16 on, and a further number follows RTS where a bit above those of the outputs is set.
  *
  * Numbers are decimal, 0 to 255. Both boards begin as just reset, board 0 with the number 0 and board 1 with the number 1, lent with eight
- * channels, and board 0 is used. A line of another form, or of more than 126 bytes, ends the program with status 2, and so do an input that
+ * channels, and board 0 is used. A line of another form, or of more than 150 bytes, ends the program with status 2, and so do an input that
  * cannot be read and an answer that cannot be written. */
 #include "interfacer3.h"
 #include "lines.h"

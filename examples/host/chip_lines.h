@@ -4,6 +4,8 @@
 
 #include "lines.h"
 
+static void print_number(uint32_t number) { printf("%lu\n", (unsigned long)number); }
+
 /* One line on a device; 0 where it is no call. */
 static int does_on(ins2651 *device, const char *line) {
     uint8_t n[3];
@@ -16,6 +18,10 @@ static int does_on(ins2651 *device, const char *line) {
     else if (is(line, "outputs", 0, n)) print_outputs(ins2651_outputs(device));
     else if (is(line, "peek", 0, n)) printf("%d\n", ins2651_peek(device));
     else if (is(line, "in_range", 0, n)) printf("%d\n", ins2651_in_range(device));
+    else if (is(line, "stamp", 0, n)) print_number(ins2651_stamp(device).ticks);
+    else if (is(line, "start", 0, n)) print_number(ins2651_start(device).ticks);
+    else if (is(line, "transmit_tally", 0, n)) print_number(ins2651_transmit_tally(device).ticks);
+    else if (is(line, "receive_tally", 0, n)) print_number(ins2651_receive_tally(device).ticks);
     else if (is(line, "reset", 0, n)) printf("%d\n", ins2651_reset(device));
     else if (is(line, "bytes", 0, n)) print_bytes(device);
     else if (set_bytes(behind(line, "device", 0, n), device)) printf("0\n");

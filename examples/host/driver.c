@@ -11,11 +11,15 @@
  *     outputs               TXRDY RXRDY TXEMT DTR RTS
  *     peek                  STATUS
  *     in_range              0 or 1
- *     device HEX            0       the device's 44 bytes are set, by exactly 88 digits 0-9, a-f
- *     bytes                 HEX     the device's 44 bytes, its padding as 00
+ *     stamp                 TALLY   the receive tally that the character of address 0 came with
+ *     start                 TALLY   the transmit tally that the last frame began with
+ *     transmit_tally        TALLY   transmit ticks since reset
+ *     receive_tally         TALLY   receive ticks since reset
+ *     device HEX            0       the device's 64 bytes are set, by exactly 128 digits 0-9, a-f
+ *     bytes                 HEX     the device's 64 bytes, its padding as 00
  *
- * Numbers are decimal, 0 to 255. The device begins as one just reset. A line of another form, or of more than 126 bytes, ends the
- * program with status 2, and so do an input that cannot be read and an answer that cannot be written. */
+ * Numbers are decimal, 0 to 255, tallies 0 to 4294967295. The device begins as one just reset. A line of another form, or of more than
+ * 150 bytes, ends the program with status 2, and so do an input that cannot be read and an answer that cannot be written. */
 #include "ins2651.h"
 #include "chip_lines.h"
 

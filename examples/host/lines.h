@@ -59,7 +59,9 @@ static int set_bytes(const char *rest, ins2651 *device) {
 static void print_digits(const ins2651 *device) {
     unsigned char bytes[sizeof *device];
     memcpy(bytes, device, sizeof *device);
-    bytes[23] = bytes[37] = bytes[43] = 0; /* padding: no call reads it, none keeps it */
+    bytes[23] = 0; /* padding: no call reads it, none keeps it */
+    memset(bytes + 45, 0, 3);
+    memset(bytes + 61, 0, 3);
     for (size_t i = 0; i < sizeof bytes; i++) printf("%02x", bytes[i]);
 }
 
@@ -95,11 +97,11 @@ static int next_line(char *line, size_t size) {
 
 /* Answers each line by `does`, which is 0 where it is no call; the program's status. */
 static int drive(const char *program, int (*does)(const char *)) {
-    char line[127];
+    char line[151];
     int there;
     while ((there = next_line(line, sizeof line)) != 0) {
         if (there < 0 || !does(line)) {
-            fprintf(stderr, "%s: no call: %s\n", program, there < 0 ? "a line over 126 bytes, or a NUL" : line);
+            fprintf(stderr, "%s: no call: %s\n", program, there < 0 ? "a line over 150 bytes, or a NUL" : line);
             return 2;
         }
         if (fflush(stdout) != 0) return 2;

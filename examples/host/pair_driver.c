@@ -4,12 +4,12 @@
  *     tick      LEVELS           a joined tick: 2 times b's level plus a's
  *     run N     REFUSAL          N joined ticks
  *     wait U N  REFUSAL COUNT    a wait with the limit N for a character at a where U is 0, else at b; the joined ticks spent
- *     bytes     HEX              the pair's 88 bytes, the padding as 00
+ *     bytes     HEX              the pair's 128 bytes, the padding as 00
  *     a CALL    ..               a call of driver.c on device a, with its answer: `a write 0 65`, `a device HEX`
  *     b CALL    ..               the same on device b
  *
- * Both devices begin as just reset. U and N are 0 to 4294967295, other numbers 0 to 255, all decimal. A line of another form, or of more
- * than 126 bytes, ends the program with status 2, and so do an input that cannot be read and an answer that cannot be written. */
+ * Both devices begin as just reset. U, N and tallies are 0 to 4294967295, other numbers 0 to 255, all decimal. A line of another form, or
+ * of more than 150 bytes, ends the program with status 2, and so do an input that cannot be read and an answer that cannot be written. */
 #include "ins2651_pair.h"
 #include "chip_lines.h"
 

@@ -297,6 +297,105 @@ static void looks(void) {
     holds(ins2651_in_range(&chip) == 1, "a device of zeros is in range");
 }
 
+/* == the tallies and the stamps == */
+
+/* The clock whose ticks a value counts: its type tells, so that neither is handed over as the other. */
+enum { TXC = 1, RXC = 2 };
+#ifdef __cplusplus
+static int clock_of(ins2651_txc) { return TXC; }
+static int clock_of(ins2651_rxc) { return RXC; }
+#else
+static int transmit_clock(ins2651_txc tally) { return (void)tally, TXC; }
+static int receive_clock(ins2651_rxc tally) { return (void)tally, RXC; }
+#define clock_of(tally) _Generic((tally), ins2651_txc: transmit_clock, ins2651_rxc: receive_clock)(tally)
+#endif
+
+static void clocks_are_two_types(void) {
+    ins2651 chip = INS2651_RESET;
+    holds(clock_of(ins2651_stamp(&chip)) == RXC && clock_of(ins2651_receive_tally(&chip)) == RXC, "ins2651_rxc is the receive clock's");
+    holds(clock_of(ins2651_start(&chip)) == TXC && clock_of(ins2651_transmit_tally(&chip)) == TXC, "ins2651_txc is the transmit clock's");
+    holds(clock_of(chip.receiver.stamp) == RXC && clock_of(chip.receiver.tally) == RXC, "the receiver's fields are of its clock");
+    holds(clock_of(chip.sender.start) == TXC && clock_of(chip.sender.tally) == TXC, "the sender's fields are of its clock");
+}
+
+/* Whether the four looks answer these numbers, and leave the device. */
+static int looks_are(ins2651 *chip, uint32_t stamp, uint32_t start, uint32_t transmits, uint32_t receives) {
+    ins2651 before = *chip;
+    return ins2651_stamp(chip).ticks == stamp && ins2651_start(chip).ticks == start && ins2651_transmit_tally(chip).ticks == transmits
+        && ins2651_receive_tally(chip).ticks == receives && same(chip, &before);
+}
+
+static void ticks_are_counted(void) {
+    ins2651 chip = INS2651_RESET;
+    holds(looks_are(&chip, 0, 0, 0, 0), "the tallies and stamps of a device just reset");
+    ins2651_transmit(&chip);
+    hears(&chip, "101");
+    holds(looks_are(&chip, 0, 0, 1, 3), "ticks count though no mode is set");
+    ins2651_receive(&chip, 2);
+    ins2651_tick(&chip, 255);
+    holds(looks_are(&chip, 0, 0, 1, 3), "a refused tick counts nothing");
+    ins2651_tick(&chip, 1);
+    holds(looks_are(&chip, 0, 0, 2, 4), "ins2651_tick counts in both tallies");
+    chip.sender.tally.ticks = chip.receiver.tally.ticks = UINT32_MAX;
+    ins2651_tick(&chip, 1);
+    holds(looks_are(&chip, 0, 0, 0, 0), "both tallies wrap");
+    ins2651_tick(&chip, 1);
+    ins2651_reset(&chip);
+    holds(looks_are(&chip, 0, 0, 0, 0), "a reset puts the tallies to 0");
+}
+
+/* Five bits, odd parity, a tick a bit: a character has eight samples. */
+static void characters_are_stamped(void) {
+    ins2651 chip = set_up(INS2651_MODE1(5, INS2651_PARITY_ODD, INS2651_STOP_1, 1), INS2651_COMMAND_RECEIVE);
+    hears(&chip, "1" "0100000");
+    holds(looks_are(&chip, 0, 0, 0, 8), "no stamp before the stop sample");
+    hears(&chip, "1" "11");
+    holds(looks_are(&chip, 9, 0, 0, 11), "ins2651_stamp is the tally after the stop sample's tick");
+    ins2651_read(&chip, INS2651_DATA);
+    ins2651_read(&chip, INS2651_DATA);
+    holds(looks_are(&chip, 9, 0, 0, 11), "a read and a second one leave the stamp");
+    ins2651_write(&chip, INS2651_COMMAND, 0);
+    hears(&chip, "00000");
+    holds(looks_are(&chip, 9, 0, 0, 16), "an emptied register leaves the stamp, and ticks count while receive is off");
+    ins2651_write(&chip, INS2651_COMMAND, INS2651_COMMAND_RECEIVE);
+    hears(&chip, "1" "01000001" "01000001");
+    holds(chip.flags.overrun == 1 && looks_are(&chip, 33, 0, 0, 33), "a character that overruns has its own stamp");
+    chip.receiver.tally.ticks = UINT32_MAX - 3;
+    hears(&chip, "01000001");
+    holds(looks_are(&chip, 4, 0, 0, 4), "a stamp wraps with its tally");
+    ins2651_reset(&chip);
+    holds(looks_are(&chip, 0, 0, 0, 0), "a reset puts the stamp to 0");
+}
+
+/* Five bits, no parity, a tick a bit: a frame has seven ticks. */
+static void frames_are_stamped(void) {
+    ins2651 chip = set_up(INS2651_MODE1(5, INS2651_PARITY_NONE, INS2651_STOP_1, 1), INS2651_COMMAND_TRANSMIT | INS2651_COMMAND_BREAK);
+    for (int tick = 0; tick < 3; tick++) ins2651_transmit(&chip);
+    ins2651_write(&chip, INS2651_COMMAND, INS2651_COMMAND_TRANSMIT);
+    ins2651_write(&chip, INS2651_DATA, 21);
+    ins2651_transmit(&chip);
+    holds(looks_are(&chip, 0, 0, 4, 0), "a break and its guard begin no frame");
+    ins2651_transmit(&chip);
+    holds(looks_are(&chip, 0, 5, 5, 0), "ins2651_start is the tally after the frame's first tick");
+    for (int tick = 0; tick < 9; tick++) ins2651_transmit(&chip);
+    holds(looks_are(&chip, 0, 5, 14, 0), "the frame's other ticks and mark leave it");
+    ins2651_write(&chip, INS2651_DATA, 21);
+    ins2651_transmit(&chip);
+    holds(looks_are(&chip, 0, 15, 15, 0), "the next frame replaces it");
+    ins2651_reset(&chip);
+    holds(looks_are(&chip, 0, 0, 0, 0), "a reset puts it to 0");
+}
+
+static void tallies_out_of_range(void) {
+    ins2651 chip;
+    memset(&chip, 0xAA, sizeof chip);
+    holds(looks_are(&chip, 0, 0, 0, 0), "the tallies and stamps of a device out of range are 0, and the looks leave it");
+    ins2651_receive(&chip, 2);
+    holds(chip.receiver.tally.ticks == 0xAAAAAAAA, "a refused call hands the tallies back as given");
+    ins2651_transmit(&chip);
+    holds(looks_are(&chip, 0, 0, 1, 0), "a call takes the tallies as those of a device just reset");
+}
+
 int main(void) {
     mode1_is_the_chips();
     other_parts_are_refused();
@@ -312,5 +411,10 @@ int main(void) {
     refused_ticks();
     rounds_are_joined_ticks();
     looks();
+    clocks_are_two_types();
+    ticks_are_counted();
+    characters_are_stamped();
+    frames_are_stamped();
+    tallies_out_of_range();
     return failures != 0;
 }

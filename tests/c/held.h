@@ -19,8 +19,10 @@ static void holds(int fact, const char *what) {
 static int same(const ins2651 *a, const ins2651 *b) {
     const unsigned char *x = (const unsigned char *)a;
     const unsigned char *y = (const unsigned char *)b;
-    for (size_t i = 0; i < sizeof *a; i++)
-        if (i != 23 && i != 37 && i != 43 && x[i] != y[i]) return 0;
+    for (size_t i = 0; i < sizeof *a; i++) {
+        int padding = i == 23 || (i >= 45 && i <= 47) || i >= 61;
+        if (!padding && x[i] != y[i]) return 0;
+    }
     return 1;
 }
 

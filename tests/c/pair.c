@@ -125,7 +125,7 @@ static void refuses_too_many(const ins2651_pair *given) {
     }
 }
 
-/* A run that is too long is refused of a pair that no tick changes, too: just reset, idle and in break. */
+/* A run that is too long is refused of a pair in which a tick moves the tallies alone, too: just reset, idle and in break. */
 static void refuses_at_rest(void) {
     ins2651_pair pair = INS2651_PAIR_RESET;
     refuses_too_many(&pair);
@@ -257,6 +257,7 @@ static void out_of_range(void) {
     ins2651_pair pair, begun = INS2651_PAIR_RESET;
     memset(&pair, 0xAA, sizeof pair);
     refuses_too_many(&pair);
+    joined_tick(&begun.a, &begun.b); /* which moves the tallies of devices just reset */
     holds(ins2651_joined_run(&pair, 1) == INS2651_DONE && same_pairs(&pair, &begun), "a run of 1 on any bytes");
 }
 
@@ -271,6 +272,41 @@ static void waits_out_of_range(void) {
             waits(&given, INS2651_UNIT_B, limit);
         }
     }
+}
+
+/* == the tallies == */
+
+/* Any number may stand in a tally: these wrap within the run. */
+static ins2651_pair about_to_wrap(void) {
+    ins2651_pair pair = talking(SIXTEEN, SIXTEEN);
+    pair.a.sender.tally.ticks = UINT32_MAX - 10;
+    pair.a.receiver.tally.ticks = UINT32_MAX - 700;
+    pair.b.sender.tally.ticks = 5;
+    pair.b.receiver.tally.ticks = UINT32_MAX - 100;
+    return pair;
+}
+
+static int tallies_are(ins2651_pair *pair, uint32_t a_sends, uint32_t a_hears, uint32_t b_sends, uint32_t b_hears) {
+    return ins2651_transmit_tally(&pair->a).ticks == a_sends && ins2651_receive_tally(&pair->a).ticks == a_hears
+        && ins2651_transmit_tally(&pair->b).ticks == b_sends && ins2651_receive_tally(&pair->b).ticks == b_hears;
+}
+
+static void joined_ticks_are_counted(void) {
+    ins2651_pair pair = about_to_wrap();
+    ins2651_joined_run(&pair, INS2651_RUN_LIMIT + 1);
+    ins2651_joined_run(&pair, 0);
+    holds(tallies_are(&pair, UINT32_MAX - 10, UINT32_MAX - 700, 5, UINT32_MAX - 100), "a run that is refused or of no tick counts nothing");
+    ins2651_joined_tick(&pair);
+    holds(tallies_are(&pair, UINT32_MAX - 9, UINT32_MAX - 699, 6, UINT32_MAX - 99), "a joined tick is one in each of the four tallies");
+    ins2651_joined_run(&pair, 1000);
+    holds(tallies_are(&pair, 990, 300, 1006, 900), "a run of n is n in each of the four tallies, modulo 2^32");
+    ins2651_joined_run(&pair, INS2651_RUN_LIMIT);
+    holds(tallies_are(&pair, 66525, 65835, 66541, 66435), "the longest run");
+    uint16_t count = INS2651_WAIT_COUNT(ins2651_joined_wait(&pair, INS2651_UNIT_A, 12));
+    holds(count == 0 && tallies_are(&pair, 66525, 65835, 66541, 66435), "a wait that finds a character counts nothing");
+    ins2651_read(&pair.a, INS2651_DATA);
+    count = INS2651_WAIT_COUNT(ins2651_joined_wait(&pair, INS2651_UNIT_A, 12));
+    holds(count == 12 && tallies_are(&pair, 66537, 65847, 66553, 66447), "a wait is its count in each of the four tallies");
 }
 
 /* == what is not lent == */
@@ -304,6 +340,7 @@ int main(void) {
     refuses_waits();
     out_of_range();
     waits_out_of_range();
+    joined_ticks_are_counted();
     neighbours();
     return failures != 0;
 }

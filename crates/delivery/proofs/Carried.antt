@@ -9,6 +9,7 @@ use lib.Dec.{ltb}
 use borrow.Author.Tests.{ltb-true, eqb-true}
 use Rattle.line_rules.specs.declared.Format.{Format}
 use Rattle.line_rules.specs.declared.Receiver.{Receiver}
+use Rattle.line_rules.specs.declared.RxC.{RxC}
 use Rattle.line_rules.specs.Sending.{on, frameLength}
 use Rattle.line_rules.proofs.Table.{both}
 use Rattle.link_rules.specs.declared.SenderHalf.{SenderHalf}
@@ -19,9 +20,9 @@ use Rattle.link_rules.specs.Hearing.{underWay}
 use Rattle.link_rules.proofs.Halves.{Tuned}
 use Rattle.delivery.specs.Log.{Way, logArrival, logRead}
 use Rattle.delivery.specs.OneWay.{Deed, Ticks, Writes, Reads, Passes, OneWay, latest, Logged, noLog, entered, made, step, runs, permits, allowed, allAllowed}
-use Rattle.delivery.specs.Promise.{Fetched, Idles, Promised}
+use Rattle.delivery.specs.Promise.{Fetched, Idles, Stamped, Promised}
 use Rattle.delivery.specs.Ends.{senderAfter, receiverAfter, receiveOn, faults, Fit, Sends, Receives, Begins}
-use Rattle.delivery.proofs.Delivery.{noticed, Flow, Flows, tick-flows, write-flows, read-flows, flow-delivers, flow-fetched, flow-permits, flow-idles, flow-begins, first-writes}
+use Rattle.delivery.proofs.Delivery.{noticed, Flow, Flows, tick-flows, write-flows, read-flows, flow-delivers, flow-fetched, flow-permits, flow-idles, flow-stamps, flow-begins, first-writes}
 
 -- where p makes q so
 or-else : (p q : Bool) → (not p || q) ≡ true → p ≡ true → q ≡ true
@@ -29,12 +30,12 @@ or-else true q h e = h
 or-else false q h e = absurd (true≢false (sym e))
 
 module _ {W X : Type 0} {o : OneWay W X} {f g : Format} (fit : Fit f g) {Sending Hearing : W → Type 0} {sender : W → SenderHalf} {receiver : W → ReceiverHalf}
-    (from : Sends o f Sending sender) (to : Receives o g Hearing receiver) where
+    (from : Sends o f Sending sender) (to : Receives o g Hearing receiver) (t : RxC) where
   abbrev L : ℕ
   L = frameLength f
 
   abbrev Goes : SenderHalf → ReceiverHalf → ℕ → Way → Type 0
-  Goes s r now l = Flow fit s r now l
+  Goes s r now l = Flow fit t s r now l
 
   -- both ends are ready, and the way flows
   record Keeps (w : Logged W) : Type 0 where
@@ -87,26 +88,26 @@ module _ {W X : Type 0} {o : OneWay W X} {f g : Format} (fit : Fit f g) {Sending
         let lv = from .level d (h .sends) in
         let timely : on (receiver d .unread) ≡ true → suc (w .now) < latest (w .log .came) + L =
         λ u. ltb-true _ _ (or-else (o .unread d) (ltb (suc (w .now)) (latest (w .log .came) + L)) p (to .unread d (h .hears) ∙ u)) in
-        let t : Flows fit (transmit (sender d) true false f .half) (receiver d) (receiveOn g (o .level d) (receiver d)) (w .now) (w .log) =
-        subst (λ (y : Bool). Flows fit (transmit (sender d) true false f .half) (receiver d) (receiveOn g y (receiver d)) (w .now) (w .log)) (sym lv)
-        (tick-flows fit (h .flow) timely) in
-        keeps-on Ticks q (rw (t .no-overrun) (t .sound)) λ at-to.
+        let goes : Flows fit t (transmit (sender d) true false f .half) (receiver d) (receiveOn g (o .level d) (receiver d)) (w .now) (w .log) =
+        subst (λ (y : Bool). Flows fit t (transmit (sender d) true false f .half) (receiver d) (receiveOn g y (receiver d)) (w .now) (w .log)) (sym lv)
+        (tick-flows fit t (h .flow) timely) in
+        keeps-on Ticks q (rw (goes .no-overrun) (goes .sound)) λ at-to.
         subst (Goes (transmit (sender d) true false f .half) (receiveOn g (o .level d) (receiver d) .half) (suc (w .now)))
         (sym (notices (w .now) d e (w .log) (h .hears) at-to ∙ ap (λ (r : ReceiverHalf). noticed (suc (w .now)) (receiver d) r (w .log)) (receiver-is Ticks q)))
-        (t .flow)
+        (goes .flow)
 
     write-keeps : (v : ℕ) → o .deed d x ≡ Writes v → permits o L w (Writes v) ≡ true → Keeps (made o w e (Writes v))
     write-keeps v q p =
-        let t = both (o .mayWrite d) (ltb v 256) p in
+        let m = both (o .mayWrite d) (ltb v 256) p in
         keeps-on (Writes v) q refl λ at-to.
-        write-flows fit v (h .flow) (eqb-true _ _ (sym (from .may-write d (h .sends)) ∙ t .0)) (ltb-true _ _ (t .1))
+        write-flows fit t v (h .flow) (eqb-true _ _ (sym (from .may-write d (h .sends)) ∙ m .0)) (ltb-true _ _ (m .1))
 
     read-keeps : o .deed d x ≡ Reads → Keeps (made o w e Reads)
     read-keeps q =
         keeps-on Reads q refl λ at-to.
         subst (Goes (sender d) (emptied (receiver d)) (w .now))
         (sym (ap₂ (λ (b : Bool) (v : ℕ). cond b (logRead v (w .log)) (w .log)) (to .unread d (h .hears)) (to .character d (h .hears))))
-        (read-flows fit (h .flow))
+        (read-flows fit t (h .flow))
 
     deed-keeps : (k : Deed) → o .deed d x ≡ k → permits o L w k ≡ true → Keeps (made o w e k)
     deed-keeps Ticks q p = tick-keeps q p
@@ -121,32 +122,42 @@ module _ {W X : Type 0} {o : OneWay W X} {f g : Format} (fit : Fit f g) {Sending
       let q = both (o .steady (w .bench) x) (permits o L w (o .deed (w .bench) x)) (p .0) in
       all-keep (step o w x) xs (deed-keeps w x h (q .0) (o .deed (w .bench) x) refl (q .1)) (p .1)
 
-  -- == the theorems ==
+-- == the theorems ==
 
-  -- from where a way begins, any steps that are allowed
-  module _ (w : W) (b : Begins Sending Hearing sender receiver w) (xs : List X) (ok : allAllowed o L (noLog w) xs ≡ true) where
-    abbrev end : Logged W
-    end = runs o (noLog w) xs
+module _ {W X : Type 0} {o : OneWay W X} {f g : Format} (fit : Fit f g) {Sending Hearing : W → Type 0} {sender : W → SenderHalf} {receiver : W → ReceiverHalf}
+    (from : Sends o f Sending sender) (to : Receives o g Hearing receiver)
+    -- from where a way begins, any steps that are allowed
+    (w : W) (b : Begins Sending Hearing sender receiver w) (xs : List X) (ok : allAllowed o (frameLength f) (noLog w) xs ≡ true) where
+  -- the receive tally there
+  abbrev t : RxC
+  t = receiver w .tally
 
-    kept : Keeps end
-    kept =
-        let tuned : Tuned g (receiver w) = ap (λ (r : Receiver). cond (underWay r) (receiver w .format) g) (b .searches) in
-        all-keep (noLog w) xs (record { sends = b .sends; hears = b .hears; flow = flow-begins fit (sender w) (receiver w) (b .idle) (b .searches) (b .read) tuned }) ok
+  abbrev end : Logged W
+  end = runs o (noLog w) xs
 
-    fetched : Fetched (o .unread (end .bench)) (end .log .came) (end .log .read)
-    fetched = subst (λ (u : Bool). Fetched u (end .log .came) (end .log .read)) (sym (to .unread (end .bench) (kept .hears))) (flow-fetched fit (kept .flow))
+  kept : Keeps fit from to t end
+  kept =
+      let tuned : Tuned g (receiver w) = ap (λ (r : Receiver). cond (underWay r) (receiver w .format) g) (b .searches) in
+      all-keep fit from to t (noLog w) xs (record { sends = b .sends; hears = b .hears; flow = flow-begins fit t (sender w) (receiver w) (b .idle) (b .searches) (b .read) refl tuned }) ok
 
-    -- demand 3 of one way
-    pub way-delivers : Promised o f end
-    way-delivers =
-        record {
-          delivered = flow-delivers fit (kept .flow);
-          unread = fetched;
-          reads = first-writes f fetched (flow-delivers fit (kept .flow));
-          permission = from .may-write (end .bench) (kept .sends) ∙ flow-permits fit (kept .flow);
-          no-flag = to .no-flag (end .bench) (kept .hears);
-        }
+  fetched : Fetched (o .unread (end .bench)) (end .log .came) (end .log .read)
+  fetched = subst (λ (u : Bool). Fetched u (end .log .came) (end .log .read)) (sym (to .unread (end .bench) (kept .hears))) (flow-fetched fit t (kept .flow))
 
-    -- 'idle', as the promise reads it from the log, is what it is in the sending half
-    pub way-idles : Idles f (sender (end .bench)) (end .now) (end .log .written)
-    way-idles = flow-idles fit (kept .flow)
+  -- demand 3 of one way
+  pub way-delivers : Promised o f end
+  way-delivers =
+      record {
+        delivered = flow-delivers fit t (kept .flow);
+        unread = fetched;
+        reads = first-writes f fetched (flow-delivers fit t (kept .flow));
+        permission = from .may-write (end .bench) (kept .sends) ∙ flow-permits fit t (kept .flow);
+        no-flag = to .no-flag (end .bench) (kept .hears);
+      }
+
+  -- and its stamps: the held character's is the tally where the way began, and the joined ticks to its arrival
+  pub way-stamps : Stamped (receiver w .tally) (o .stamp (end .bench)) (end .log .came)
+  way-stamps = subst (λ (n : RxC). Stamped t n (end .log .came)) (sym (to .stamp (end .bench) (kept .hears))) (flow-stamps fit t (kept .flow))
+
+  -- 'idle', as the promise reads it from the log, is what it is in the sending half
+  pub way-idles : Idles f (sender (end .bench)) (end .now) (end .log .written)
+  way-idles = flow-idles fit t (kept .flow)

@@ -8,10 +8,11 @@ use lib.Dec.{eqb}
 use lib.ListN.{replicate}
 use Rattle.line_rules.specs.declared.Format.{Format}
 use Rattle.line_rules.specs.Sending.{on, part, oddOnes, parityBit, frameLength}
-use Rattle.line_rules.specs.Receiving.{searching, sample}
+use Rattle.line_rules.specs.Clocks.{noRxC}
+use Rattle.line_rules.specs.Receiving.{sample}
 use Rattle.link_rules.specs.declared.SenderHalf.{SenderHalf}
 use Rattle.link_rules.specs.declared.ReceiverHalf.{ReceiverHalf}
-use Rattle.link_rules.specs.Parts.{noFormat, idleSender}
+use Rattle.link_rules.specs.Parts.{idleSender, resting}
 use Rattle.link_rules.specs.Transmitting.{transmit}
 use Rattle.link_rules.specs.Hearing.{receive}
 use Rattle.delivery.specs.OneWay.{Deed, Ticks, Writes, Reads, OneWay, noLog, runs, allAllowed}
@@ -44,6 +45,7 @@ module _ (f g : Format) where
         level = sent;
         unread = λ b. on (b .receiver .unread);
         character = λ b. b .receiver .holding;
+        stamp = λ b. b .receiver .stamp;
         flagged = λ b. b .fault;
       }
 
@@ -52,14 +54,14 @@ module _ (f g : Format) where
   halves-send = record { may-write = λ b h. refl; level = λ b h. refl; ready = λ b k h s. tt; follows = λ b k h s. refl }
 
   pub halves-receive : Receives halves g (λ b. b .fault ≡ false) (λ b. b .receiver)
-  halves-receive = record { unread = λ b h. refl; character = λ b h. refl; no-flag = λ b h. h; ready = λ b k h s n. rw (h, n); follows = λ b k h s. refl }
+  halves-receive = record { unread = λ b h. refl; character = λ b h. refl; stamp = λ b h. refl; no-flag = λ b h. h; ready = λ b k h s n. rw (h, n); follows = λ b k h s. refl }
 
-  -- a sender that rests and a receiver that searches
+  -- a sender that rests and a receiver that searches, whose tally is near its wrap
   abbrev pub at-rest : Bare
-  at-rest = record { sender = idleSender; receiver = record { state = searching; format = noFormat; holding = 0; unread = 0 }; fault = false }
+  at-rest = record { sender = idleSender; receiver = resting 1 0 0 noRxC (record { 0 = 4294967286 }); fault = false }
 
   pub halves-deliver : Fit f g → (ks : List Deed) → allAllowed halves (frameLength f) (noLog at-rest) ks ≡ true → Promised halves f (runs halves (noLog at-rest) ks)
-  halves-deliver fit ks ok = way-delivers fit halves-send halves-receive at-rest (record { sends = tt; hears = refl; idle = refl; searches = refl; read = refl }) ks ok
+  halves-deliver fit ks ok = way-delivers fit halves-send halves-receive at-rest (record { sends = tt; hears = refl; idle = record { frame = refl; empty = refl; guard = refl }; searches = refl; read = refl }) ks ok
 
 -- == a run ==
 
@@ -82,3 +84,8 @@ pub two-logged : runs (halves five five) (noLog (at-rest five five)) two-charact
     }
 unfolding part oddOnes parityBit sample transmit receive
 two-logged = refl
+
+-- the second character came with tick 14, and its stamp has wrapped: 4294967286 + 14 is 4 more than 4294967296
+pub two-stamped : runs (halves five five) (noLog (at-rest five five)) two-characters .bench .receiver .stamp ≡ record { 0 = 4 }
+unfolding part oddOnes parityBit sample transmit receive
+two-stamped = refl

@@ -5,17 +5,18 @@ use mathlib.Core.Bool.{Bool, true, false, cond, true≢false}
 use mathlib.Core.List.{List}
 use Rattle.line_rules.specs.declared.Format.{Format}
 use Rattle.line_rules.specs.Sending.{frameLength}
+use Rattle.line_rules.specs.Clocks.{rxLater}
 use Rattle.line_rules.specs.Receiving.{waiting}
 use Rattle.line_rules.proofs.Choice.{either}
 use Rattle.link_rules.specs.declared.SenderHalf.{SenderHalf}
 use Rattle.link_rules.specs.declared.ReceiverHalf.{ReceiverHalf}
-use Rattle.link_rules.specs.Parts.{idleSender, loaded, emptied}
+use Rattle.link_rules.specs.Parts.{loaded, emptied}
 use Rattle.delivery.specs.OneWay.{Deed, Writes, Reads, Passes, noLog, runs, allAllowed}
-use Rattle.delivery.specs.Promise.{Idles, Promised}
+use Rattle.delivery.specs.Promise.{Idles, Stamped, Promised}
 use Rattle.delivery.specs.Joined.{Chip, Side, A, B, other, Happens, Together, To, Elsewhere, Upset, Line, Becomes, Joins, writing, reading, deedFrom, steadyFrom, wayFrom}
-use Rattle.delivery.specs.Ends.{senderAfter, receiverAfter, faults, Fit, Sends, Receives, Begins, SendingEnd, ReceivingEnd}
-use Rattle.delivery.proofs.Carried.{way-delivers, way-idles}
-use Rattle.delivery.proofs.Started.{tick-begins}
+use Rattle.delivery.specs.Ends.{senderAfter, receiverAfter, faults, Fit, Sends, Receives, Idle, Begins, SendingEnd, ReceivingEnd}
+use Rattle.delivery.proofs.Carried.{way-delivers, way-stamps, way-idles}
+use Rattle.delivery.proofs.Started.{tick-begins, tick-counts}
 
 -- a call by its deed, at its own side ..
 module _ {D C : Type 0} (k : Chip D C) (d : D) (c : C) where
@@ -110,6 +111,7 @@ module _ {W X : Type 0} {State Call : Side → Type 0} (l : Line W X State Call)
       record {
         unread = λ w h. end .unread (l .device (other s) w) h;
         character = λ w h. end .character (l .device (other s) w) h;
+        stamp = λ w h. end .stamp (l .device (other s) w) h;
         no-flag = λ w h. end .no-flag (l .device (other s) w) h;
         ready = λ w x h t n. hears-ready s end w (l .happens w x) (l .device (other s) (l .next w x)) (joins .follows (other s) w x) h t n;
         follows = λ w x h t. hears-half s end w (l .happens w x) (l .device (other s) (l .next w x)) (joins .follows (other s) w x) h t;
@@ -130,15 +132,24 @@ module _ {W X : Type 0} {State Call : Side → Type 0} {l : Line W X State Call}
   BeginsAt = Begins (λ w. S (l .device s w)) (λ w. R (l .device (other s) w)) (λ w. sender (l .device s w)) (λ w. receiver (l .device (other s) w))
 
   -- one joined tick makes the way begin, from a device whose sending half is idle to one whose receiving half waits, with nothing unread
-  pub line-begins : (w : W) (x : X) → l .happens w x ≡ Together → S (l .device s w) → R (l .device (other s) w) → sender (l .device s w) ≡ idleSender
+  pub line-begins : (w : W) (x : X) → l .happens w x ≡ Together → S (l .device s w) → R (l .device (other s) w) → Idle (sender (l .device s w))
       → receiver (l .device (other s) w) .state ≡ waiting → receiver (l .device (other s) w) .unread ≡ 0 → BeginsAt (l .next w x)
   line-begins w x together ready listens idle waits read =
       tick-begins from to w x (ap (deedFrom l s w) together) (ap (steadyFrom l s w) together) ready listens idle waits read
+
+  -- which its receive tally counts
+  pub line-counts : (w : W) (x : X) → l .happens w x ≡ Together → R (l .device (other s) w)
+      → receiver (l .device (other s) (l .next w x)) .tally ≡ rxLater 1 (receiver (l .device (other s) w) .tally)
+  line-counts w x together listens = tick-counts to w x (ap (deedFrom l s w) together) (ap (steadyFrom l s w) together) listens
 
   -- what else the two chips do, and whatever happens on the other way, does not touch it
   module _ (fit : Fit f g) (w : W) (begins : BeginsAt w) (xs : List X) (ok : allAllowed (wayFrom l s) (frameLength f) (noLog w) xs ≡ true) where
     pub line-delivers : Promised (wayFrom l s) f (runs (wayFrom l s) (noLog w) xs)
     line-delivers = way-delivers fit from to w begins xs ok
+
+    pub line-stamps : let end = runs (wayFrom l s) (noLog w) xs in
+        Stamped (receiver (l .device (other s) w) .tally) (l .chip (other s) .stamp (l .device (other s) (end .bench))) (end .log .came)
+    line-stamps = way-stamps fit from to w begins xs ok
 
     -- 'idle', as the promise reads it from the log, is what it is in the sending half
     pub line-idles : let end = runs (wayFrom l s) (noLog w) xs in Idles f (sender (l .device s (end .bench))) (end .now) (end .log .written)

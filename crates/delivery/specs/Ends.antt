@@ -14,7 +14,7 @@ use Rattle.line_rules.specs.Sees.{Alike}
 use Rattle.link_rules.specs.declared.SenderHalf.{SenderHalf}
 use Rattle.link_rules.specs.declared.ReceiverHalf.{ReceiverHalf}
 use Rattle.link_rules.specs.declared.Received.{Received}
-use Rattle.link_rules.specs.Parts.{idleSender, loaded, emptied}
+use Rattle.link_rules.specs.Parts.{noFrame, loaded, emptied}
 use Rattle.link_rules.specs.Transmitting.{transmit}
 use Rattle.link_rules.specs.Hearing.{arrives, receive}
 use Rattle.delivery.specs.OneWay.{Deed, Ticks, Writes, Reads, Passes, OneWay}
@@ -72,19 +72,26 @@ pub record Sends {W X : Type 0} (o : OneWay W X) (f : Format) (Ready : W → Typ
 
 -- an end that receives in the format g: `Ready` is what its receiving rests on, with no error flag set
 pub record Receives {W X : Type 0} (o : OneWay W X) (g : Format) (Ready : W → Type 0) (half : W → ReceiverHalf) : Type 0 where
-  -- it holds an unread character when its half does, and a read gives that; it shows no flag
+  -- it holds an unread character when its half does, and a read gives that, with its stamp; it shows no flag
   pub unread : (w : W) → Ready w → o .unread w ≡ on (half w .unread)
   pub character : (w : W) → Ready w → o .character w ≡ half w .holding
+  pub stamp : (w : W) → Ready w → o .stamp w ≡ half w .stamp
   pub no-flag : (w : W) → Ready w → o .flagged w ≡ false
   -- a steady step that brings no fault leaves it ready; every steady step does to its half what the deed does
   pub ready : (w : W) (x : X) → Ready w → o .steady w x ≡ true → faults g (o .level w) (o .deed w x) (half w) ≡ false → Ready (o .next w x)
   pub follows : (w : W) (x : X) → Ready w → o .steady w x ≡ true → half (o .next w x) ≡ receiverAfter g (o .level w) (o .deed w x) (half w)
 
+-- nothing waits, no frame is under way and no guard stands, whatever the tallies are
+pub record Idle (s : SenderHalf) : Type 0 where
+  pub frame : s .frame ≡ noFrame
+  pub empty : s .full ≡ 0
+  pub guard : s .guard ≡ 0
+
 -- where a way begins: both ends ready, nothing waiting and nothing under way at the one, the other searching for a start, with nothing unread
 pub record Begins {W : Type 0} (Sending Hearing : W → Type 0) (sender : W → SenderHalf) (receiver : W → ReceiverHalf) (w : W) : Type 0 where
   pub sends : Sending w
   pub hears : Hearing w
-  pub idle : sender w ≡ idleSender
+  pub idle : Idle (sender w)
   pub searches : receiver w .state ≡ searching
   pub read : receiver w .unread ≡ 0
 
@@ -106,6 +113,7 @@ module _ {D C : Type 0} (k : Chip D C) where
   pub record ReceivingEnd (g : Format) (Ready : D → Type 0) (half : D → ReceiverHalf) : Type 0 where
     pub unread : (d : D) → Ready d → k .unread d ≡ on (half d .unread)
     pub character : (d : D) → Ready d → k .character d ≡ half d .holding
+    pub stamp : (d : D) → Ready d → k .stamp d ≡ half d .stamp
     pub no-flag : (d : D) → Ready d → k .flagged d ≡ false
     -- its part of a joined tick, with the level x on the line
     pub tick-ready : (d : D) (x : Bool) → Ready d → tickFaults g x (half d) ≡ false → Ready (k .tick d x)

@@ -3,6 +3,7 @@
 use Prim.Native.Nat.{ℕ}
 use mathlib.Core.Path.{_≡_}
 use mathlib.Core.Bool.{Bool, true, false, cond}
+use Rattle.line_rules.specs.declared.RxC.{RxC}
 use Rattle.delivery.specs.OneWay.{Deed, Ticks, Writes, Reads, Passes, OneWay}
 
 -- == a chip ==
@@ -18,10 +19,11 @@ pub record Chip (D C : Type 0) : Type 0 where
   pub writes : D → C → Bool
   pub value : C → ℕ
   pub leavesSending : D → C → Bool
-  -- to receive: whether it holds an unread character, what a read would give, whether a call is that read, whether an error flag is shown, and
-  -- whether a call leaves alone what receiving rests on
+  -- to receive: whether it holds an unread character, what a read would give, that character's stamp, whether a call is that read, whether an error
+  -- flag is shown, and whether a call leaves alone what receiving rests on
   pub unread : D → Bool
   pub character : D → ℕ
+  pub stamp : D → RxC
   pub reads : D → C → Bool
   pub flagged : D → Bool
   pub leavesReceiving : D → C → Bool
@@ -105,5 +107,6 @@ module _ {W X : Type 0} {State Call : Side → Type 0} (l : Line W X State Call)
         level = λ w. l .chip s .level (l .device s w);
         unread = λ w. l .chip (other s) .unread (l .device (other s) w);
         character = λ w. l .chip (other s) .character (l .device (other s) w);
+        stamp = λ w. l .chip (other s) .stamp (l .device (other s) w);
         flagged = λ w. l .chip (other s) .flagged (l .device (other s) w);
       }

@@ -4,6 +4,7 @@ use Prim.Native.Nat.{ℕ, suc, _+_}
 use mathlib.Core.Bool.{Bool, true, cond, not, _&&_, _||_}
 use mathlib.Core.List.{List, [], _∷_}
 use lib.Dec.{ltb}
+use Rattle.line_rules.specs.declared.RxC.{RxC}
 use Rattle.delivery.specs.Log.{Entry, Way, nothingYet, logWrite, logArrival, logRead}
 
 -- == what can be seen ==
@@ -25,9 +26,10 @@ pub record OneWay (W X : Type 0) : Type 0 where
   -- the end that sends: whether it may be written, and the level that it sends at the next joined tick
   pub mayWrite : W → Bool
   pub level : W → Bool
-  -- the end that receives: whether it holds an unread character, what a read would give, and whether it shows an error flag
+  -- the end that receives: whether it holds an unread character, what a read would give, that character's stamp, and whether it shows an error flag
   pub unread : W → Bool
   pub character : W → ℕ
+  pub stamp : W → RxC
   pub flagged : W → Bool
 
 -- == the log ==

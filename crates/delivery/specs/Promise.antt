@@ -8,7 +8,9 @@ use mathlib.Core.List.{List, [], _∷_, _++_, map}
 use lib.Dec.{ltb}
 use lib.ListN.{length}
 use Rattle.line_rules.specs.declared.Format.{Format}
+use Rattle.line_rules.specs.declared.RxC.{RxC}
 use Rattle.line_rules.specs.Sending.{cut, frameLength, stopSample}
+use Rattle.line_rules.specs.Clocks.{rxLater}
 use Rattle.link_rules.specs.declared.SenderHalf.{SenderHalf}
 use Rattle.delivery.specs.Log.{Entry}
 use Rattle.delivery.specs.OneWay.{OneWay, Logged, latest}
@@ -82,6 +84,13 @@ pub record InOrder (f : Format) (finished : Type 0) (read written : List ℕ) : 
 pub record Idles (f : Format) (s : SenderHalf) (now : ℕ) (xs : List Entry) : Type 0 where
   pub nothing : over (frameLength f) xs ≤ now → (s .frame .place ≡ 0) × (s .full ≡ 0)
   pub over-by-now : s .frame .place ≡ 0 → s .full ≡ 0 → over (frameLength f) xs ≤ now
+
+-- == stamps: request P4 ==
+
+-- the stamp of the held character, which is the latest that came: t is the receive tally where the way began, and each joined tick since then counts
+abbrev pub Stamped : RxC → RxC → List Entry → Type 0
+Stamped t shown [] = Unit {0}
+Stamped t shown (y ∷ ys) = shown ≡ rxLater (y .at) t
 
 -- == the promise ==
 

@@ -3,8 +3,9 @@ pub mod Bytes
 pub mod Lent
 pub mod Again
 pub mod InTurn
-pub mod Either
 pub mod Spares
+pub mod Decides
+pub mod Either
 pub mod Looks
 pub mod Refusable
 pub mod Promises

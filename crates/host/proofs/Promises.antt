@@ -1,4 +1,4 @@
--- What each lent call promises, and how a promise is made of others: where a call is spared, only looks or is refused, and which of two it is.
+-- What each lent call promises, and how a promise is made of others: where a call is spared, only counts, only looks or is refused, and which of two it is.
 -- Assumes nothing.
 use Prim.Native.Nat.{ℕ, _*_}
 use native.Mathlib.Omega.{arith}
@@ -12,7 +12,7 @@ use Rattle.ins2651_rules.specs.declared.Device.{Device}
 use Rattle.ins2651_rules.specs.declared.Answer.{Answer}
 use Rattle.ins2651_rules.specs.declared.Outcome.{Outcome}
 use Rattle.ins2651_rules.specs.declared.Ticked.{Ticked}
-use Rattle.ins2651_rules.specs.Shape.{resetDevice, done}
+use Rattle.ins2651_rules.specs.Shape.{resetDevice, sendCounted, hearCounted, bothCounted, done}
 use Rattle.ins2651_rules.specs.Ranges.{inRange, settled}
 use Rattle.ins2651_rules.specs.RegisterReads.{readHolding, readStatus, readRegister, read}
 use Rattle.ins2651_rules.specs.RegisterWrites.{writeHolding, writeRegister, write}
@@ -22,12 +22,14 @@ use Rattle.ins2651_rules.specs.Status.{statusByte, peek, outputsOf, outputs}
 use Rattle.ins2651_rules.proofs.Done.{register-done, done-write, done-pins, done-receive}
 use Rattle.ins2651_rules.proofs.Settled.{settled-is, settled-out, settled-in}
 use Rattle.ins2651_rules.specs.Still.{rests, searches, still}
+use Rattle.ins2651_rules.specs.Stamps.{stamp, start, transmitTally, receiveTally}
 use Rattle.ins2651_rules.proofs.StaysStill.{rests-still, searches-still, still-stays}
 use Rattle.host.specs.declared.Reply.{Reply}
 use Rattle.host.specs.Replies.{word, levels, bothTicks, heard, ticked, readRefused, writeRefused, pinsRefused, levelRefused, tickRefused}
 use Rattle.host.proofs.Calls.{Bytes, Promise}
-use Rattle.host.proofs.Either.{Divides}
 use Rattle.host.proofs.Spares.{Spares}
+use Rattle.host.proofs.Decides.{Decides}
+use Rattle.host.proofs.Either.{Divides}
 use Rattle.host.proofs.Looks.{Looks}
 use Rattle.host.proofs.Refusable.{Chooses}
 
@@ -65,8 +67,14 @@ pins = record { answers = λ d xs. 0; leaves = λ d xs. pinned d (xs .0) (xs .1 
 abbrev pub sends : Promise 0
 sends = record { answers = λ d xs. transmitTick d .level; leaves = λ d xs. transmitTick d .device }
 
+abbrev pub counts-send : Promise 0
+counts-send = record { answers = λ d xs. 1; leaves = λ d xs. sendCounted d }
+
 abbrev pub hears-tick : Promise 1
 hears-tick = record { answers = λ d xs. 0; leaves = λ d xs. receiveTick d (on (xs .0)) }
+
+abbrev pub counts-hear : Promise 1
+counts-hear = record { answers = λ d xs. 0; leaves = λ d xs. hearCounted d }
 
 abbrev pub hears : Promise 1
 hears = record { answers = λ d xs. 0; leaves = λ d xs. heard d (xs .0) }
@@ -74,17 +82,11 @@ hears = record { answers = λ d xs. 0; leaves = λ d xs. heard d (xs .0) }
 abbrev pub ticks-both : Promise 1
 ticks-both = record { answers = λ d xs. bothTicks d (xs .0) .answer; leaves = λ d xs. bothTicks d (xs .0) .device }
 
+abbrev pub counts-both : Promise 1
+counts-both = record { answers = λ d xs. 1; leaves = λ d xs. bothCounted d }
+
 abbrev pub hears-and-sends : Promise 1
 hears-and-sends = record { answers = λ d xs. ticked d (xs .0) .answer; leaves = λ d xs. ticked d (xs .0) .device }
-
-abbrev pub shows-outputs : Promise 0
-shows-outputs = record { answers = λ d xs. levels (outputsOf d); leaves = λ d xs. d }
-
-abbrev pub shows-status : Promise 0
-shows-status = record { answers = λ d xs. statusByte d; leaves = λ d xs. d }
-
-abbrev pub shows-range : Promise 0
-shows-range = record { answers = λ d xs. 1; leaves = λ d xs. d }
 
 -- == the calls ==
 
@@ -115,6 +117,18 @@ peeks = record { answers = λ d xs. peek d; leaves = λ d xs. d }
 abbrev pub tells-range : Promise 0
 tells-range = record { answers = λ d xs. bit (inRange d); leaves = λ d xs. d }
 
+abbrev pub tells-stamp : Promise 0
+tells-stamp = record { answers = λ d xs. stamp d .0; leaves = λ d xs. d }
+
+abbrev pub tells-start : Promise 0
+tells-start = record { answers = λ d xs. start d .0; leaves = λ d xs. d }
+
+abbrev pub tells-transmit-tally : Promise 0
+tells-transmit-tally = record { answers = λ d xs. transmitTally d .0; leaves = λ d xs. d }
+
+abbrev pub tells-receive-tally : Promise 0
+tells-receive-tally = record { answers = λ d xs. receiveTally d .0; leaves = λ d xs. d }
+
 -- == where a call is spared ==
 
 abbrev pub in-range : Device → Bytes 0 → Bool
@@ -124,27 +138,29 @@ pub settled-or-reset : Spares 0 1 in-range resets settles
 unfolding settled
 settled-or-reset = record { still = λ d xs e. (rw e refl, rw e refl); acts = λ d xs e. (rw e refl, rw e refl) }
 
+-- == where a tick only counts ==
+
 abbrev pub resting : Device → Bytes 0 → Bool
 resting d xs = rests d
 
-pub rests-or-sends : Spares 0 1 resting sends sends
+pub rests-or-sends : Decides 0 resting counts-send sends sends
 rests-or-sends =
     record {
-      still = λ d xs e. (ap (λ (t : Ticked). t .level) (sym (rests-still d e)), ap (λ (t : Ticked). t .device) (sym (rests-still d e)));
-      acts = λ d xs e. (refl, refl);
+      is = λ d xs e. (ap (λ (t : Ticked). t .level) (sym (rests-still d e)), ap (λ (t : Ticked). t .device) (sym (rests-still d e)));
+      not = λ d xs e. (refl, refl);
     }
 
 abbrev pub searching : Device → Bytes 1 → Bool
 searching d xs = searches d (xs .0)
 
-pub searches-or-hears : Spares 1 0 searching hears-tick hears
-searches-or-hears = record { still = λ d xs e. rw e (refl, refl); acts = λ d xs e. rw e (refl, refl) }
+pub searches-or-hears : Decides 1 searching counts-hear hears-tick hears
+searches-or-hears = record { is = λ d xs e. rw e (refl, refl); not = λ d xs e. rw e (refl, refl) }
 
 abbrev pub staying : Device → Bytes 1 → Bool
 staying d xs = still d (xs .0)
 
-pub stays-or-ticks : Spares 1 1 staying ticks-both hears-and-sends
-stays-or-ticks = record { still = λ d xs e. rw e (refl, refl); acts = λ d xs e. rw e (refl, refl) }
+pub stays-or-ticks : Decides 1 staying counts-both ticks-both hears-and-sends
+stays-or-ticks = record { is = λ d xs e. rw e (refl, refl); not = λ d xs e. rw e (refl, refl) }
 
 -- of a device in range it is the tick all the same
 heard-is-tick : (d : Device) → inRange d ≡ true → (x : ℕ) → heard d x ≡ receiveTick d (on x)
@@ -160,16 +176,44 @@ told : (b c : Bool) → eqb (bit b) 1 ≡ c → b ≡ c
 told true c e = e
 told false c e = e
 
-pub outputs-or-reset : Looks 31 settles shows-outputs tells-outputs
+-- a number of a device in range, as a call by value gives it
+abbrev pub shows : (Device → ℕ) → Device → Bytes 0 → ℕ
+shows N d xs = N d
+
+-- of any device it is that of the settled one, so that a device out of range shows what one just reset does
+looked : (N : Device → ℕ) (v : ℕ) → v ≡ N resetDevice → Looks v settles (shows N) (record { answers = λ d xs. N (settled d); leaves = λ d xs. d })
+looked N v q =
+    record {
+      sound = λ d e. (refl, settled-is d (told _ true e));
+      unsound = λ d e. (q ∙ ap N (sym (settled-out d (told _ false e))), refl);
+    }
+
+pub outputs-or-reset : Looks 31 settles (shows (λ d. levels (outputsOf d))) tells-outputs
 unfolding outputs outputsOf
-outputs-or-reset = record { sound = λ d e. (refl, settled-is d (told _ true e)); unsound = λ d e. rw (settled-out d (told _ false e)) (refl, refl) }
+outputs-or-reset = looked (λ d. levels (outputsOf d)) 31 refl
 
-pub status-or-reset : Looks 0 settles shows-status peeks
+pub status-or-reset : Looks 0 settles (shows statusByte) peeks
 unfolding peek statusByte
-status-or-reset = record { sound = λ d e. (refl, settled-is d (told _ true e)); unsound = λ d e. rw (settled-out d (told _ false e)) (refl, refl) }
+status-or-reset = looked statusByte 0 refl
 
-pub range-or-reset : Looks 0 settles shows-range tells-range
+pub range-or-reset : Looks 0 settles (shows (λ d. 1)) tells-range
 range-or-reset = record { sound = λ d e. rw (told (inRange d) true e) (refl, settled-is d (told _ true e)); unsound = λ d e. rw (told (inRange d) false e) (refl, refl) }
+
+pub stamp-or-reset : Looks 0 settles (shows (λ d. d .receiver .stamp .0)) tells-stamp
+unfolding stamp
+stamp-or-reset = looked (λ d. d .receiver .stamp .0) 0 refl
+
+pub start-or-reset : Looks 0 settles (shows (λ d. d .sender .start .0)) tells-start
+unfolding start
+start-or-reset = looked (λ d. d .sender .start .0) 0 refl
+
+pub transmit-tally-or-reset : Looks 0 settles (shows (λ d. d .sender .tally .0)) tells-transmit-tally
+unfolding transmitTally
+transmit-tally-or-reset = looked (λ d. d .sender .tally .0) 0 refl
+
+pub receive-tally-or-reset : Looks 0 settles (shows (λ d. d .receiver .tally .0)) tells-receive-tally
+unfolding receiveTally
+receive-tally-or-reset = looked (λ d. d .receiver .tally .0) 0 refl
 
 -- == which of two calls it is, by the address ==
 

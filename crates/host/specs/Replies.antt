@@ -6,13 +6,12 @@ use Rattle.line_rules.specs.Sending.{on}
 use Rattle.ins2651_rules.specs.declared.Device.{Device}
 use Rattle.ins2651_rules.specs.declared.Answer.{Answer}
 use Rattle.ins2651_rules.specs.declared.OutputPins.{OutputPins}
-use Rattle.ins2651_rules.specs.Shape.{resetDevice}
+use Rattle.ins2651_rules.specs.Shape.{resetDevice, sendCounted, hearCounted, bothCounted}
 use Rattle.ins2651_rules.specs.Refusals.{readRefusal, writeRefusal, pinsRefusal, levelRefusal}
 use Rattle.ins2651_rules.specs.RegisterReads as RegisterReads
 use Rattle.ins2651_rules.specs.RegisterWrites as RegisterWrites
 use Rattle.ins2651_rules.specs.Pinning as Pinning
 use Rattle.ins2651_rules.specs.Ticks as Ticks
-use Rattle.ins2651_rules.specs.Status as Status
 use Rattle.ins2651_rules.specs.Still.{searches, still}
 use Rattle.host.specs.declared.Reply.{Reply}
 
@@ -61,27 +60,27 @@ transmit d = record { answer = Ticks.transmitTick d .level; device = Ticks.trans
 abbrev pub receive : Device → ℕ → Reply
 receive d level = done (Ticks.receiveTick d (on level))
 
-abbrev pub outputs : Device → Reply
-outputs d = record { answer = levels (Status.outputsOf d); device = d }
-
-abbrev pub peek : Device → Reply
-peek d = record { answer = Status.statusByte d; device = d }
-
--- any device that is in range
-abbrev pub inRange : Device → Reply
-inRange d = record { answer = 1; device = d }
-
 -- both ticks, answering the level that the second sends
 abbrev pub bothTicks : Device → ℕ → Reply
 bothTicks d level = record { answer = Ticks.bothTicks d (on level) .level; device = Ticks.bothTicks d (on level) .device }
 
--- == a receive tick and both ticks where they are spared: of a device in range nothing else comes of it (`heard-is-tick`, `ticked-is-both`) ==
+-- == the ticks that only count (P4) ==
 
+abbrev pub countedSend : Device → Reply
+countedSend d = record { answer = 1; device = sendCounted d }
+
+abbrev pub countedHear : Device → ℕ → Reply
+countedHear d level = done (hearCounted d)
+
+abbrev pub countedBoth : Device → ℕ → Reply
+countedBoth d level = record { answer = 1; device = bothCounted d }
+
+-- a receive tick and both ticks that only count where their test holds: of a device in range nothing else comes of it (`heard-is-tick`, `ticked-is-both`)
 abbrev pub heard : Device → ℕ → Device
-heard d level = cond (searches d level) d (Ticks.receiveTick d (on level))
+heard d level = cond (searches d level) (hearCounted d) (Ticks.receiveTick d (on level))
 
 abbrev pub ticked : Device → ℕ → Reply
-ticked d level = cond (still d level) (record { answer = 1; device = d }) (bothTicks d level)
+ticked d level = cond (still d level) (countedBoth d level) (bothTicks d level)
 
 -- == what a refused call answers of a device in range; 0 where nothing is refused ==
 

@@ -1,11 +1,11 @@
 // The device lent to a C host: each call finds it, advances it in place and answers one number. include/ins2651.h is C's view.
 // Whatever bytes the host lends, the call is what `ins2651_rules` says of them; a refused call hands them back as they were.
 // A call makes the device sound once and then acts on it where it stands. For speed one function asks for the range, each act by
-// value has one caller in place, and a tick that changes nothing stores nothing (docs/DECISIONS.md).
+// value has one caller in place, and a tick that only counts stores no more than its tally (P4, docs/DECISIONS.md).
 ghost use mathlib.Core.Path.{_≡_};
 ghost use denote.Ref.{now};
 ghost use Rattle.line_rules.specs.Sending.{bit, on};
-ghost use Rattle.ins2651_rules.specs.Shape.{resetDevice};
+ghost use Rattle.ins2651_rules.specs.Shape.{resetDevice, sendCounted, hearCounted, bothCounted};
 ghost use Rattle.ins2651_rules.specs.Ranges.{inRange, settled};
 ghost use Rattle.ins2651_rules.specs.RegisterReads;
 ghost use Rattle.ins2651_rules.specs.RegisterReads.{readHolding, readStatus, readRegister};
@@ -16,6 +16,7 @@ ghost use Rattle.ins2651_rules.specs.Ticks;
 ghost use Rattle.ins2651_rules.specs.Ticks.{transmitTick, receiveTick, bothTicks};
 ghost use Rattle.ins2651_rules.specs.Status;
 ghost use Rattle.ins2651_rules.specs.Status.{statusByte, outputsOf};
+ghost use Rattle.ins2651_rules.specs.Stamps;
 ghost use Rattle.host.specs.Replies;
 ghost use Rattle.host.specs.Replies.{word, levels, heard, ticked};
 use ins2651_rules::Answer;
@@ -110,37 +111,83 @@ fn receive(d: Device, level: u8) -> Reply
     done(ins2651::receive_tick(d, 0 < level))
 }
 
-fn outputs(d: Device) -> Reply
-    ensures { λ r. ⌜ r ≡ Replies.outputs d ⌝ }
+// A transmit tick that only counts sends 1 (P4). Here and in the next two the tally alone is put into the device: so no more is stored.
+fn counted_send(mut d: Device) -> Reply
+    ensures { λ r. ⌜ r ≡ Replies.countedSend d ⌝ }
 {
-    let o = ins2651::outputs_of(d);
-    Reply {
-        answer: o.txrdy as u16
-            + o.rxrdy as u16 * 2
-            + o.txemt as u16 * 4
-            + o.dtr as u16 * 8
-            + o.rts as u16 * 16,
-        device: d,
-    }
-}
-
-fn peek(d: Device) -> Reply
-    ensures { λ r. ⌜ r ≡ Replies.peek d ⌝ }
-{
-    Reply {
-        answer: ins2651::status_byte(d) as u16,
-        device: d,
-    }
-}
-
-// 1, of any device in range: `ins2651_in_range` is then a call that only looks, as the other two.
-fn in_range(d: Device) -> Reply
-    ensures { λ r. ⌜ r ≡ Replies.inRange d ⌝ }
-{
+    let sent = ins2651::count_sent(d);
+    d.sender.tally.0 = sent.sender.tally.0;
     Reply {
         answer: 1,
         device: d,
     }
+}
+
+fn counted_hear(mut d: Device, level: u8) -> Reply
+    ensures { λ r. ⌜ r ≡ Replies.countedHear d level ⌝ }
+{
+    let heard = ins2651::count_heard(d);
+    d.receiver.tally.0 = heard.receiver.tally.0;
+    done(d)
+}
+
+fn counted_both(mut d: Device, level: u8) -> Reply
+    ensures { λ r. ⌜ r ≡ Replies.countedBoth d level ⌝ }
+{
+    let both = ins2651::count_both(d);
+    d.sender.tally.0 = both.sender.tally.0;
+    d.receiver.tally.0 = both.receiver.tally.0;
+    Reply {
+        answer: 1,
+        device: d,
+    }
+}
+
+// == what a look answers of a device in range ==
+
+fn outputs(d: Device) -> u16
+    ensures { λ r. ⌜ r ≡ levels (outputsOf d) ⌝ }
+{
+    let o = ins2651::outputs_of(d);
+    o.txrdy as u16 + o.rxrdy as u16 * 2 + o.txemt as u16 * 4 + o.dtr as u16 * 8 + o.rts as u16 * 16
+}
+
+fn peek(d: Device) -> u16
+    ensures { λ r. ⌜ r ≡ statusByte d ⌝ }
+{
+    ins2651::status_byte(d) as u16
+}
+
+// 1, of any device in range: `ins2651_in_range` is then a call that only looks, as the others.
+fn in_range(d: Device) -> u16
+    ensures { λ r. ⌜ r ≡ 1 ⌝ }
+{
+    1
+}
+
+// The stamps and tallies of request P4, as numbers: C has them as its own two types.
+fn stamp(d: Device) -> u32
+    ensures { λ r. ⌜ r ≡ d .receiver .stamp .0 ⌝ }
+{
+    d.receiver.stamp.0
+}
+
+fn start(d: Device) -> u32
+    ensures { λ r. ⌜ r ≡ d .sender .start .0 ⌝ }
+{
+    d.sender.start.0
+}
+
+fn transmit_tally(d: Device) -> u32
+    ensures { λ r. ⌜ r ≡ d .sender .tally .0 ⌝ }
+{
+    d.sender.tally.0
+}
+
+fn receive_tally(d: Device) -> u32
+    ensures { λ r. ⌜ r ≡ d .receiver .tally .0 ⌝ }
+{
+    d.receiver.tally.0
 }
 
 // == what a refused call answers of a device in range, and 0 where nothing is refused ==
@@ -282,14 +329,23 @@ fn send_tick(d: &mut Device) -> u16
     reply.answer
 }
 
-// A device that rests sends 1 and stays as it is.
+fn count_send(d: &mut Device) -> u16
+    ensures { λ r. ⌜ (r ≡ 1) × (now (d .exit) ≡ sendCounted (now (d .entry))) ⌝ }
+{
+    let before = *d;
+    let reply = counted_send(before);
+    *d = reply.device;
+    reply.answer
+}
+
+// A device that rests sends 1 and only counts.
 fn send(d: &mut Device) -> u16
     ensures { λ r. ⌜ (r ≡ transmitTick (now (d .entry)) .level) × (now (d .exit) ≡ transmitTick (now (d .entry)) .device) ⌝ }
 {
     let before = *d;
     let still = ins2651::rests(before);
     if still {
-        return 1;
+        return count_send(d);
     }
     send_tick(d)
 }
@@ -303,14 +359,23 @@ fn hear_tick(d: &mut Device, level: u8) -> u16
     reply.answer
 }
 
-// A device that searches and hears a 1 stays as it is.
+fn count_hear(d: &mut Device, level: u8) -> u16
+    ensures { λ r. ⌜ (r ≡ 0) × (now (d .exit) ≡ hearCounted (now (d .entry))) ⌝ }
+{
+    let before = *d;
+    let reply = counted_hear(before, level);
+    *d = reply.device;
+    reply.answer
+}
+
+// A device that searches and hears a 1 only counts.
 fn hear(d: &mut Device, level: u8) -> u16
     ensures { λ r. ⌜ (r ≡ 0) × (now (d .exit) ≡ heard (now (d .entry)) level) ⌝ }
 {
     let before = *d;
     let still = ins2651::searches(before, level);
     if still {
-        return 0;
+        return count_hear(d, level);
     }
     hear_tick(d, level)
 }
@@ -322,51 +387,35 @@ fn both_ticks(d: &mut Device, level: u8) -> u16
     send_tick(d)
 }
 
-// Where neither tick changes anything the device stays as it is.
+fn count_both(d: &mut Device, level: u8) -> u16
+    ensures { λ r. ⌜ (r ≡ 1) × (now (d .exit) ≡ bothCounted (now (d .entry))) ⌝ }
+{
+    let before = *d;
+    let reply = counted_both(before, level);
+    *d = reply.device;
+    reply.answer
+}
+
+// Where both ticks only count, one act counts both.
 fn hear_and_send(d: &mut Device, level: u8) -> u16
     ensures { λ r. ⌜ (r ≡ ticked (now (d .entry)) level .answer) × (now (d .exit) ≡ ticked (now (d .entry)) level .device) ⌝ }
 {
     let before = *d;
     let still = ins2651::still(before, level);
     if still {
-        return 1;
+        return count_both(d, level);
     }
     both_ticks(d, level)
 }
 
-fn show_outputs(d: &mut Device) -> u16
-    ensures { λ r. ⌜ (r ≡ levels (outputsOf (now (d .entry)))) × (now (d .exit) ≡ now (d .entry)) ⌝ }
-{
-    let before = *d;
-    let reply = outputs(before);
-    *d = reply.device;
-    reply.answer
-}
-
-fn show_status(d: &mut Device) -> u16
-    ensures { λ r. ⌜ (r ≡ statusByte (now (d .entry))) × (now (d .exit) ≡ now (d .entry)) ⌝ }
-{
-    let before = *d;
-    let reply = peek(before);
-    *d = reply.device;
-    reply.answer
-}
-
-fn show_range(d: &mut Device) -> u16
-    ensures { λ r. ⌜ (r ≡ 1) × (now (d .exit) ≡ now (d .entry)) ⌝ }
-{
-    let before = *d;
-    let reply = in_range(before);
-    *d = reply.device;
-    reply.answer
-}
-
 // == the calls on a lent device ==
 
-// What a device out of range shows: all five outputs high, and no bit of the status.
+// What a device out of range shows: all five outputs high, no bit of the status, and no tick.
 const OUTPUTS_AFTER_RESET: u16 = 31;
 
 const STATUS_AFTER_RESET: u16 = 0;
+
+const TICKS_AFTER_RESET: u32 = 0;
 
 // Resets the device; answers 0.
 #[no_mangle]
@@ -476,7 +525,8 @@ pub extern "C" fn ins2651_outputs(d: &mut Device) -> u16
     let given = *d;
     let sound = make_sound(d);
     if sound == 1 {
-        return show_outputs(d);
+        let shown = *d;
+        return outputs(shown);
     }
     *d = given;
     OUTPUTS_AFTER_RESET
@@ -490,7 +540,8 @@ pub extern "C" fn ins2651_peek(d: &mut Device) -> u16
     let given = *d;
     let sound = make_sound(d);
     if sound == 1 {
-        return show_status(d);
+        let shown = *d;
+        return peek(shown);
     }
     *d = given;
     STATUS_AFTER_RESET
@@ -504,8 +555,69 @@ pub extern "C" fn ins2651_in_range(d: &mut Device) -> u16
     let given = *d;
     let sound = make_sound(d);
     if sound == 1 {
-        return show_range(d);
+        let shown = *d;
+        return in_range(shown);
     }
     *d = given;
     0
+}
+
+// The stamp of the character that a read of address 0 gives (P4). Here and in the next three the device stays as it is, in range or not.
+#[no_mangle]
+pub extern "C" fn ins2651_stamp(d: &mut Device) -> u32
+    ensures { λ r. ⌜ (r ≡ Stamps.stamp (now (d .entry)) .0) × (now (d .exit) ≡ now (d .entry)) ⌝ }
+{
+    let given = *d;
+    let sound = make_sound(d);
+    if sound == 1 {
+        let shown = *d;
+        return stamp(shown);
+    }
+    *d = given;
+    TICKS_AFTER_RESET
+}
+
+// The transmit tally after the first tick of the last frame.
+#[no_mangle]
+pub extern "C" fn ins2651_start(d: &mut Device) -> u32
+    ensures { λ r. ⌜ (r ≡ Stamps.start (now (d .entry)) .0) × (now (d .exit) ≡ now (d .entry)) ⌝ }
+{
+    let given = *d;
+    let sound = make_sound(d);
+    if sound == 1 {
+        let shown = *d;
+        return start(shown);
+    }
+    *d = given;
+    TICKS_AFTER_RESET
+}
+
+// Transmit ticks since reset.
+#[no_mangle]
+pub extern "C" fn ins2651_transmit_tally(d: &mut Device) -> u32
+    ensures { λ r. ⌜ (r ≡ Stamps.transmitTally (now (d .entry)) .0) × (now (d .exit) ≡ now (d .entry)) ⌝ }
+{
+    let given = *d;
+    let sound = make_sound(d);
+    if sound == 1 {
+        let shown = *d;
+        return transmit_tally(shown);
+    }
+    *d = given;
+    TICKS_AFTER_RESET
+}
+
+// Receive ticks since reset.
+#[no_mangle]
+pub extern "C" fn ins2651_receive_tally(d: &mut Device) -> u32
+    ensures { λ r. ⌜ (r ≡ Stamps.receiveTally (now (d .entry)) .0) × (now (d .exit) ≡ now (d .entry)) ⌝ }
+{
+    let given = *d;
+    let sound = make_sound(d);
+    if sound == 1 {
+        let shown = *d;
+        return receive_tally(shown);
+    }
+    *d = given;
+    TICKS_AFTER_RESET
 }

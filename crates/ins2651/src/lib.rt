@@ -6,7 +6,7 @@ ghost use mathlib.Core.Path.{_≡_};
 ghost use Prim.Native.Nat.{_≤_};
 ghost use Rattle.line_rules.specs.Sending.{bit};
 ghost use Rattle.ins2651_rules.specs.Shape;
-ghost use Rattle.ins2651_rules.specs.Shape.{resetDevice, refusedRead, refused};
+ghost use Rattle.ins2651_rules.specs.Shape.{resetDevice, sendCounted, hearCounted, bothCounted, deviceLater, refusedRead, refused};
 ghost use Rattle.ins2651_rules.specs.Modes;
 ghost use Rattle.ins2651_rules.specs.Modes.{factorOf, stopOf, formatOf, sendFormat, receiveFormat};
 ghost use Rattle.ins2651_rules.specs.Conditions;
@@ -23,6 +23,8 @@ ghost use Rattle.ins2651_rules.specs.Pinning.{setPins};
 ghost use Rattle.ins2651_rules.specs.Pinning;
 ghost use Rattle.ins2651_rules.specs.Ticks;
 ghost use Rattle.ins2651_rules.specs.Still;
+ghost use Rattle.ins2651_rules.specs.Stamps;
+ghost use Rattle.ins2651_rules.specs.Stamps.{transmitTally, receiveTally};
 ghost use Rattle.ins2651_rules.specs.Ticks.{sentBy, transmitTick, receivedBy, receiveTick};
 use ins2651_rules::Answer;
 use ins2651_rules::Device;
@@ -34,6 +36,8 @@ use ins2651_rules::Registers;
 use ins2651_rules::Ticked;
 use line_rules::Format;
 use line_rules::Heard;
+use line_rules::RxC;
+use line_rules::TxC;
 use link_rules::Received;
 use link_rules::ReceiverHalf;
 use link_rules::SenderHalf;
@@ -287,11 +291,13 @@ fn flags_in_range(f: Flags) -> bool
 pub fn in_range(d: Device) -> bool
     ensures { λ b. ⌜ b ≡ inRange d ⌝ }
 {
-    registers_in_range(d.registers)
-        & pins_in_range(d.pins)
-        & link::sender_in_range(d.sender)
-        & link::receiver_in_range(d.receiver)
-        & flags_in_range(d.flags)
+    let set = registers_in_range(d.registers) & pins_in_range(d.pins);
+    if set {
+        return link::sender_in_range(d.sender)
+            & link::receiver_in_range(d.receiver)
+            & flags_in_range(d.flags);
+    }
+    false
 }
 
 // The same of a device with no frame and no character under way, where that is known.
@@ -785,14 +791,84 @@ pub fn level_refusal(x: u8) -> u8
 pub fn receive(d: Device, x: u8) -> Outcome
     ensures { λ r. ⌜ r ≡ Ticks.receive d x ⌝ }
 {
-    let n = level_refusal(x);
-    if n == 0 {
+    let refusal = level_refusal(x);
+    if refusal == 0 {
         return complete(receive_tick(settle(d), 0 < x));
     }
-    refuse(n, d)
+    refuse(refusal, d)
 }
 
-// == ticks that change nothing ==
+// == tallies and stamps (P4): of a device out of range those of one just reset ==
+
+// The receive tally after the stop sample's tick of the character that RHR holds; 0 where none has come since reset.
+pub fn stamp(d: Device) -> RxC
+    ensures { λ r. ⌜ r ≡ Stamps.stamp d ⌝ }
+{
+    let s = settle(d);
+    s.receiver.stamp
+}
+
+// The transmit tally after the first tick of the last frame; 0 where none has begun since reset.
+pub fn start(d: Device) -> TxC
+    ensures { λ r. ⌜ r ≡ Stamps.start d ⌝ }
+{
+    let s = settle(d);
+    s.sender.start
+}
+
+// Transmit ticks since reset.
+pub fn transmit_tally(d: Device) -> TxC
+    ensures { λ r. ⌜ r ≡ transmitTally d ⌝ }
+{
+    let s = settle(d);
+    s.sender.tally
+}
+
+// Receive ticks since reset: those that were done.
+pub fn receive_tally(d: Device) -> RxC
+    ensures { λ r. ⌜ r ≡ receiveTally d ⌝ }
+{
+    let s = settle(d);
+    s.receiver.tally
+}
+
+// == ticks that only count ==
+
+// What such a transmit tick leaves.
+pub fn count_sent(mut d: Device) -> Device
+    ensures { λ r. ⌜ r ≡ sendCounted d ⌝ }
+{
+    let counted = link::sender_later(d.sender, 1);
+    d.sender = counted;
+    d
+}
+
+// What such a receive tick leaves.
+pub fn count_heard(mut d: Device) -> Device
+    ensures { λ r. ⌜ r ≡ hearCounted d ⌝ }
+{
+    let counted = link::receiver_later(d.receiver, 1);
+    d.receiver = counted;
+    d
+}
+
+// What both leave.
+pub fn count_both(d: Device) -> Device
+    ensures { λ r. ⌜ r ≡ bothCounted d ⌝ }
+{
+    later(d, 1)
+}
+
+// What n of both leave.
+pub fn later(mut d: Device, n: u16) -> Device
+    ensures { λ r. ⌜ r ≡ deviceLater n d ⌝ }
+{
+    let sender = link::sender_later(d.sender, n);
+    let receiver = link::receiver_later(d.receiver, n);
+    d.sender = sender;
+    d.receiver = receiver;
+    d
+}
 
 // Nothing may start.
 fn idle(s: SenderHalf, ready: bool, broken: bool) -> bool
@@ -801,21 +877,21 @@ fn idle(s: SenderHalf, ready: bool, broken: bool) -> bool
     !(ready & broken) & (s.guard == 0) & !(ready & (0 < s.full))
 }
 
-// A transmit tick of it sends 1 and changes nothing.
+// A transmit tick of it sends 1 and only counts.
 pub fn rests(d: Device) -> bool
     ensures { λ r. ⌜ r ≡ Still.rests d ⌝ }
 {
     !(0 < d.sender.frame.place) & idle(d.sender, may_start(d), break_on(d))
 }
 
-// A receive tick of it with this level changes nothing, where it is in range.
+// A receive tick of it with this level only counts, where it is in range.
 pub fn searches(d: Device, x: u8) -> bool
     ensures { λ r. ⌜ r ≡ Still.searches d x ⌝ }
 {
     (0 < x) & listening(d) & (d.receiver.state.phase == 1)
 }
 
-// Neither does.
+// Both do.
 pub fn still(d: Device, x: u8) -> bool
     ensures { λ r. ⌜ r ≡ Still.still d x ⌝ }
 {

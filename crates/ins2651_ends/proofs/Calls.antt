@@ -25,6 +25,7 @@ use Rattle.ins2651_rules.specs.RegisterReads.{readRegister, read}
 use Rattle.ins2651_rules.specs.RegisterWrites.{writeRegister}
 use Rattle.ins2651_rules.specs.Pinning.{pinned}
 use Rattle.ins2651_rules.specs.Status.{statusByte}
+use Rattle.ins2651_rules.specs.Stamps.{stamp}
 use Rattle.ins2651_rules.specs.Runs.{Call, Reset, Read, Write, SetPins, Transmit, Receive, Outputs, next, byCall, otherwise, atRead, atWrite, atPins, atOutputs}
 use Rattle.ins2651_rules.specs.Rows.{refusal}
 use Rattle.ins2651_rules.specs.History.{reads, writesHolding}
@@ -75,6 +76,11 @@ unread-some d z = sym (unread-held d ∙ ap (λ (b : Bool). inRange d && b) (lt-
 pub character-is : (d : Device) → inRange d ≡ true → character d ≡ d .receiver .holding
 unfolding readRegister
 character-is d h = ap (λ (o : Answer). o .value) (does-read d h 0 refl)
+
+-- with its stamp
+pub stamp-is : (d : Device) → inRange d ≡ true → stamp d ≡ d .receiver .stamp
+unfolding stamp
+stamp-is d h = ap (λ (e : Device). e .receiver .stamp) (settled-is d h)
 
 -- bits 5, 4 and 3 are the error flags
 pub flagged-is : (d : Device) → inRange d ≡ true → flagged d ≡ (on (d .flags .framing) || on (d .flags .overrun) || on (d .flags .parity))

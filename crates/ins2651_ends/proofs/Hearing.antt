@@ -40,7 +40,7 @@ use Rattle.ins2651_rules.proofs.WritesLeave.{NoErrors, CommandWritten, command-
 use Rattle.ins2651_rules.proofs.InRange.{next-in}
 use Rattle.delivery.specs.Ends.{receiveOn, faulty, tickFaults, ReceivingEnd}
 use Rattle.ins2651_ends.specs.OnALine.{flagged, normal, leavesReceiving, refusedOr, ins2651}
-use Rattle.ins2651_ends.proofs.Calls.{unread-is, character-is, flagged-is, is-level, refused-or, refused-reads-nothing, same-none, command-sets-none, light, pinsAfter, Light, light-leaves}
+use Rattle.ins2651_ends.proofs.Calls.{unread-is, character-is, stamp-is, flagged-is, is-level, refused-or, refused-reads-nothing, same-none, command-sets-none, light, pinsAfter, Light, light-leaves}
 
 -- it listens in the format g, and no error flag is set
 pub record Hearing (g : Format) (d : Device) : Type 0 where
@@ -183,6 +183,7 @@ receiving-end g =
     record {
       unread = λ d h. unread-is d (h .within);
       character = λ d h. character-is d (h .within);
+      stamp = λ d h. stamp-is d (h .within);
       no-flag = shows-no-flag;
       tick-ready = λ d x h q.
           ticked-ready d (bit x) h (is-level x) (ap (λ (y : Bool). tickFaults g y (d .receiver)) (on-bit x) ∙ q);

@@ -8,6 +8,7 @@ use Rattle.ins2651_rules.specs.declared.Device.{Device}
 use Rattle.ins2651_rules.specs.Modes.{has, transmitEnable, receiveEnable, forceBreak}
 use Rattle.ins2651_rules.specs.RegisterReads.{read}
 use Rattle.ins2651_rules.specs.Ticks.{transmit}
+use Rattle.ins2651_rules.specs.Stamps.{stamp}
 use Rattle.ins2651_rules.specs.Runs.{Call, Transmit, Receive, next, byCall, otherwise, atRead, atWrite, atPins, atTransmit, atReceive, atOutputs}
 use Rattle.ins2651_rules.specs.Rows.{refusal}
 use Rattle.ins2651_rules.specs.History.{reads, writesHolding}
@@ -92,6 +93,7 @@ ins2651 =
       leavesSending = refusedOr leavesSending;
       unread = unread;
       character = character;
+      stamp = stamp;
       reads = λ d c. reads 0 c;
       flagged = flagged;
       leavesReceiving = refusedOr leavesReceiving;

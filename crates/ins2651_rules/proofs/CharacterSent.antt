@@ -20,7 +20,7 @@ use Rattle.line_rules.proofs.Table.{both}
 use Rattle.link_rules.specs.declared.Frame.{Frame}
 use Rattle.link_rules.specs.declared.SenderHalf.{SenderHalf}
 use Rattle.link_rules.specs.declared.Sent.{Sent}
-use Rattle.link_rules.specs.Parts.{noFrame}
+use Rattle.link_rules.specs.Parts.{noFrame, senderLater}
 use Rattle.link_rules.specs.Transmitting.{frameNext, beginTick}
 use Rattle.link_rules.specs.Within.{holdingInRange, busyInRange, freeInRange, frameInRange, senderInRange}
 use Rattle.link_rules.proofs.Halves.{frameOf, transmit-begins, full-after, holding-after, length-bound}
@@ -88,7 +88,7 @@ module _ (d : Device) (v : ℕ) (h : inRange d ≡ true) (w : Waits v d) (may : 
   fits : Bounds f
   fits = in-range-bounds f (format-in (d .registers .mode1) (has 32 (d .registers .mode2)))
 
-  begin-is : sent (settled d) ≡ beginTick (d .sender) f
+  begin-is : sent (settled d) ≡ beginTick (senderLater 1 (d .sender)) f
   begin-is =
       let q = both (eqb (d .sender .frame .place) 0) (eqb (d .sender .guard) 0) free in
       ap sent (settled-is d h)

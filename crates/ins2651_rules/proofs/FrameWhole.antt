@@ -15,7 +15,7 @@ use Rattle.line_rules.proofs.Table.{both}
 use Rattle.link_rules.specs.declared.Frame.{Frame}
 use Rattle.link_rules.specs.declared.SenderHalf.{SenderHalf}
 use Rattle.link_rules.specs.declared.Sent.{Sent}
-use Rattle.link_rules.specs.Parts.{noFrame}
+use Rattle.link_rules.specs.Parts.{noFrame, senderLater}
 use Rattle.link_rules.specs.Transmitting.{frameNext, frameTick}
 use Rattle.link_rules.proofs.Halves.{frameOf, transmit-under, frame-goes-on, frame-ends}
 use Rattle.ins2651_rules.specs.declared.Device.{Device}
@@ -102,11 +102,11 @@ frame-kept d c h r t = sender-kept d c h r t .frame
 -- == a transmit tick of a frame under way ==
 
 module _ (d : Device) (h : range.inRange d ≡ true) (f : Format) (c i : ℕ) (under : d .sender .frame ≡ frameOf f c i) (begun : 0 < i) where
-  goes-on : sent (settled d) ≡ frameTick (d .sender) (frameOf f c i) false
+  goes-on : sent (settled d) ≡ frameTick (senderLater 1 (d .sender)) (frameOf f c i) false
   goes-on =
       ap sent (settled-is d h)
       ∙ transmit-under (d .sender) (mayStart d) (breakOn d) (sendFormat (d .registers)) (ap (λ (g : Frame). on (g .place)) under ∙ lt-ltb 0 i begun)
-      ∙ ap (λ (g : Frame). frameTick (d .sender) g false) under
+      ∙ ap (λ (g : Frame). frameTick (senderLater 1 (d .sender)) g false) under
 
   pub tick-level : transmit d .level ≡ bit (level f c i)
   unfolding transmit transmitTick

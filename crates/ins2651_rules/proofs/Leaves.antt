@@ -106,13 +106,15 @@ pub record ReadLeaves (d e : Device) : Type 0 where
   pub state : e .receiver .state ≡ d .receiver .state
   pub format : e .receiver .format ≡ d .receiver .format
   pub holding : e .receiver .holding ≡ d .receiver .holding
+  pub stamp : e .receiver .stamp ≡ d .receiver .stamp
+  pub tally : e .receiver .tally ≡ d .receiver .tally
   pub errors : SameErrors (d .flags) (e .flags)
   pub empty : e .flags .empty ≡ d .flags .empty
 
 -- other pointers and other marks
 moved : (d : Device) (m s u c : ℕ)
     → ReadLeaves d (withReceiver (withRegisters d (pointing (d .registers) m s))
-    (record { state = d .receiver .state; format = d .receiver .format; holding = d .receiver .holding; unread = u }) (withChange (d .flags) c))
+    (record { state = d .receiver .state; format = d .receiver .format; holding = d .receiver .holding; unread = u; stamp = d .receiver .stamp; tally = d .receiver .tally }) (withChange (d .flags) c))
 moved d m s u c =
     record {
       mode1 = refl;
@@ -127,6 +129,8 @@ moved d m s u c =
       state = refl;
       format = refl;
       holding = refl;
+      stamp = refl;
+      tally = refl;
       errors = record { framing = refl; overrun = refl; parity = refl };
       empty = refl;
     }

@@ -20,6 +20,7 @@ pub mod RuleRows
 pub mod ModeCodes
 pub mod PointersMove
 pub mod ReadByHistory
+pub mod TalliesByHistory
 pub mod Rules
 pub mod ReceiverOff
 pub mod StatusBits

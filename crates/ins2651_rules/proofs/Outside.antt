@@ -7,6 +7,7 @@ use mathlib.Core.Path.{_≡_, refl, sym, ap, ap₂, _∙_}
 use mathlib.Core.Bool.{Bool, true, false}
 use mathlib.Core.List.{List, [], _∷_}
 use Rattle.line_rules.specs.Sending.{on}
+use Rattle.line_rules.specs.Clocks.{noTxC, noRxC}
 use Rattle.ins2651_rules.specs.declared.Device.{Device}
 use Rattle.ins2651_rules.specs.declared.Answer.{Answer}
 use Rattle.ins2651_rules.specs.declared.Outcome.{Outcome}
@@ -14,6 +15,7 @@ use Rattle.ins2651_rules.specs.declared.Ticked.{Ticked}
 use Rattle.ins2651_rules.specs.Shape.{resetDevice, done}
 use Rattle.ins2651_rules.specs.Status.{outputsOf, outputs}
 use Rattle.ins2651_rules.specs.Ranges.{inRange, settled}
+use Rattle.ins2651_rules.specs.Stamps.{stamp, start, transmitTally, receiveTally}
 use Rattle.ins2651_rules.specs.Refusals.{writeRefusal}
 use Rattle.ins2651_rules.specs.RegisterReads.{readRegister, read}
 use Rattle.ins2651_rules.specs.RegisterWrites.{writeRegister, write}
@@ -35,6 +37,13 @@ pub record AsReset (d : Device) (c : Call) : Type 0 where
 module _ (d : Device) (out : inRange d ≡ false) where
   same : settled d ≡ settled resetDevice
   same = settled-out d out ∙ sym (settled-is resetDevice reset-in)
+
+  -- its tallies and stamps are 0 (P4)
+  pub outside-tallies : ((transmitTally d ≡ noTxC) × (receiveTally d ≡ noRxC)) × ((start d ≡ noTxC) × (stamp d ≡ noRxC))
+  unfolding stamp start transmitTally receiveTally
+  outside-tallies =
+      let e : settled d ≡ resetDevice = settled-out d out in
+      ((ap (λ (s : Device). s .sender .tally) e, ap (λ (s : Device). s .receiver .tally) e), (ap (λ (s : Device). s .sender .start) e, ap (λ (s : Device). s .receiver .stamp) e))
 
   pub outside-refusal : (c : Call) → refusal d c ≡ refusal resetDevice c
   outside-refusal Reset = refl

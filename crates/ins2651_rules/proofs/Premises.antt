@@ -8,6 +8,7 @@ use mathlib.Core.List.{List, [], _∷_, _++_, map}
 use lib.ListN.{drop}
 use Rattle.line_rules.specs.Sending.{bit, frame, part}
 use Rattle.line_rules.specs.Range as line-range
+use Rattle.line_rules.specs.Clocks.{noRxC}
 use Rattle.line_rules.specs.Reading.{reading}
 use Rattle.line_rules.specs.Receiving.{sample}
 use Rattle.link_rules.specs.Transmitting as link-transmitting
@@ -63,7 +64,7 @@ sends-both = waiting-follows (externalFormat 77) 65 1 66 twoWritten refl (omega 
 abbrev heard : List Call
 heard = Receive 1 ∷ Read 1 ∷ Receive 0 ∷ Transmit ∷ Receive 2 ∷ Receive 1 ∷ Write 3 7 ∷ Read 4 ∷ SetPins 1 0 0 ∷ Receive 1 ∷ Receive 0 ∷ Receive 0 ∷ Receive 0 ∷ Receive 1 ∷ []
 
-hears : arrivedIn (chipWith 65) 0 heard ≡ reading (externalFormat 65) (samples heard)
+hears : arrivedIn (chipWith 65) 0 heard ≡ reading (externalFormat 65) noRxC (samples heard)
 unfolding part sample link-transmitting.transmit link-hearing.receive line-range.inRange senderInRange receiverInRange formatOf statusByte inRange settled writeRefusal readRegister read writeRegister write pinned setPins transmitTick transmit receiveTick receive
 hears =
     let on : (d : Device) → listening d ≡ true → receiveFormat (d .registers) ≡ externalFormat 65 → Listens (externalFormat 65) d = λ d l f. record { live = l; format = f } in

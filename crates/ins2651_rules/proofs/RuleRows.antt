@@ -17,8 +17,9 @@ use Rattle.ins2651_rules.specs.RegisterReads.{readRegister, read}
 use Rattle.ins2651_rules.specs.RegisterWrites.{writeRegister, write}
 use Rattle.ins2651_rules.specs.Pinning.{pinned, setPins}
 use Rattle.ins2651_rules.specs.Ticks.{transmitTick, transmit, receiveTick, receive}
+use Rattle.ins2651_rules.specs.Stamps.{stamp, start, transmitTally, receiveTally}
 use Rattle.ins2651_rules.specs.RuleCases.{played, scripts}
 
 pub rules : map (played resetDevice) scripts ≡ scripts
-unfolding oddOnes parityBit part line-range.inRange sample link-transmitting.transmit link-hearing.receive senderInRange receiverInRange formatOf statusByte inRange settled writeRefusal readRegister read writeRegister write pinned setPins transmitTick transmit receiveTick receive
+unfolding oddOnes parityBit part line-range.inRange sample link-transmitting.transmit link-hearing.receive senderInRange receiverInRange formatOf statusByte inRange settled writeRefusal readRegister read writeRegister write pinned setPins transmitTick transmit receiveTick receive stamp start transmitTally receiveTally
 rules = refl

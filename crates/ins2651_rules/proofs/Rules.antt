@@ -8,9 +8,8 @@ use lib.Dec.{eqb}
 use lib.ListN.{replicate}
 use Rattle.line_rules.specs.Sending.{bit, on}
 use Rattle.link_rules.specs.declared.Sent.{Sent}
-use Rattle.link_rules.specs.declared.Received.{Received}
 use Rattle.line_rules.specs.Receiving.{waiting}
-use Rattle.link_rules.specs.Parts.{noFormat, noFrame, withGuard, dropped, emptied}
+use Rattle.link_rules.specs.Parts.{noFormat, noFrame, withGuard, dropped, emptied, senderLater, receiverLater}
 use Rattle.link_rules.specs.Transmitting.{markTick}
 use Rattle.link_rules.specs.Hearing as link-hearing
 use Rattle.link_rules.proofs.Halves.{transmit-idle, receive-off}
@@ -66,13 +65,13 @@ unset-hears-nothing d e = ap (λ (b : Bool). has 4 (d .registers .command) && eq
 
 pub record Marks (d : Device) : Type 0 where
   pub level : transmit d .level ≡ 1
-  pub sender : next d Transmit .sender ≡ withGuard (d .sender) (d .sender .guard - 1)
+  pub sender : next d Transmit .sender ≡ withGuard (senderLater 1 (d .sender)) (d .sender .guard - 1)
 
 -- where nothing may start and no frame is under way, 1 is sent and a guard above 0 falls by one
 pub nothing-starts : (d : Device) → inRange d ≡ true → mayStart d ≡ false → on (d .sender .frame .place) ≡ false → Marks d
 unfolding transmit transmitTick
 nothing-starts d h s t =
-    let e : sent (settled d) ≡ markTick (d .sender) = ap sent (settled-is d h) ∙ transmit-idle (d .sender) (mayStart d) (breakOn d) (sendFormat (d .registers)) t s in
+    let e : sent (settled d) ≡ markTick (senderLater 1 (d .sender)) = ap sent (settled-is d h) ∙ transmit-idle (d .sender) (mayStart d) (breakOn d) (sendFormat (d .registers)) t s in
     record { level = ap (λ (o : Sent). bit (o .level)) e; sender = ap (λ (o : Sent). o .half) e }
 
 -- == reset ==
@@ -83,6 +82,8 @@ pub record JustReset (d : Device) : Type 0 where
   pub pointers : d .registers .modes ∷ d .registers .syns ∷ [] ≡ replicate 2 0
   pub empty : d .sender .full ∷ d .receiver .unread ∷ [] ≡ replicate 2 0
   pub held : d .sender .holding ∷ d .receiver .holding ∷ [] ≡ replicate 2 0
+  pub tallies : d .sender .tally .0 ∷ d .receiver .tally .0 ∷ [] ≡ replicate 2 0
+  pub stamps : d .sender .start .0 ∷ d .receiver .stamp .0 ∷ [] ≡ replicate 2 0
   pub frame : d .sender .frame ≡ noFrame
   pub guard : d .sender .guard ≡ 0
   pub receiver : d .receiver .state ≡ waiting
@@ -90,15 +91,16 @@ pub record JustReset (d : Device) : Type 0 where
   pub inputs : d .pins .dsr ∷ d .pins .dcd ∷ d .pins .cts ∷ [] ≡ replicate 3 1
   pub flags : d .flags .framing ∷ d .flags .overrun ∷ d .flags .parity ∷ d .flags .empty ∷ d .flags .change ∷ [] ≡ replicate 5 0
 
--- whatever the device was: every register clear, both holding registers empty, no frame, guard or character under way, a wait for a 1, inputs high
+-- whatever the device was: every register clear, both holding registers empty, both tallies and both stamps 0, no frame, guard or character under way, a
+-- wait for a 1, inputs high
 pub reset-clears : (d : Device) → JustReset (next d Reset)
 reset-clears d =
-    record { registers = refl; unset = refl; pointers = refl; empty = refl; held = refl; frame = refl; guard = refl; receiver = refl; format = refl; inputs = refl; flags = refl }
+    record { registers = refl; unset = refl; pointers = refl; empty = refl; held = refl; tallies = refl; stamps = refl; frame = refl; guard = refl; receiver = refl; format = refl; inputs = refl; flags = refl }
 
 -- == what drops a character ==
 
--- a receive tick while receive is off, DCD high or mode unset: RHR, the flags and all else stay
-pub off-tick-drops : (d : Device) (x : ℕ) → inRange d ≡ true → listening d ≡ false → refusal d (Receive x) ≡ 0 → next d (Receive x) ≡ withReceiver d (dropped (d .receiver)) (d .flags)
+-- a receive tick while receive is off, DCD high or mode unset: it counts; RHR, the flags and all else stay
+pub off-tick-drops : (d : Device) (x : ℕ) → inRange d ≡ true → listening d ≡ false → refusal d (Receive x) ≡ 0 → next d (Receive x) ≡ withReceiver d (dropped (receiverLater 1 (d .receiver))) (d .flags)
 unfolding receiveTick
 off-tick-drops d x h r n =
     does-receive d h x n

@@ -1,4 +1,4 @@
--- A transmit tick of a device that rests sends 1 and changes nothing, whatever the device. Nor does a receive tick of one in range that searches, with a 1.
+-- A transmit tick of a device that rests sends 1 and only counts, whatever the device. So does a receive tick of one in range that searches, with a 1.
 -- Assumes nothing.
 use Prim.Native.Nat.{ℕ, _-_}
 use native.Mathlib.Omega.{arith}
@@ -11,11 +11,12 @@ use Rattle.line_rules.specs.Sending.{on}
 use Rattle.line_rules.proofs.Table.{both}
 use Rattle.line_rules.proofs.Choice.{not-so}
 use Rattle.link_rules.specs.declared.SenderHalf.{SenderHalf}
+use Rattle.link_rules.specs.Parts.{senderLater}
 use Rattle.link_rules.specs.Transmitting.{idleTick, transmit}
 use Rattle.link_rules.specs.Hearing.{receive}
 use Rattle.link_rules.proofs.AtRest.{is-clear, in-range-clear, stays, rest-stays}
 use Rattle.ins2651_rules.specs.declared.Device.{Device}
-use Rattle.ins2651_rules.specs.Shape.{ticked}
+use Rattle.ins2651_rules.specs.Shape.{ticked, sendCounted, hearCounted, bothCounted}
 use Rattle.ins2651_rules.specs.Modes.{sendFormat, receiveFormat}
 use Rattle.ins2651_rules.specs.Conditions.{mayStart, breakOn, listening}
 use Rattle.ins2651_rules.specs.Ranges.{inRange}
@@ -26,17 +27,17 @@ use Rattle.ins2651_rules.proofs.InRange.{parts}
 -- == a transmit tick ==
 
 module _ (s : SenderHalf) (ready broken : Bool) (f : Format) (t : on (s .frame .place) ≡ false) (h : idle s ready broken ≡ true) where
-  -- an idle half sends 1 and stays as it is
-  idle-stays : transmit s ready broken f ≡ idleTick s true (s .guard)
+  -- an idle half sends 1 and only counts
+  idle-stays : transmit s ready broken f ≡ idleTick (senderLater 1 s) true (s .guard)
   unfolding transmit
   idle-stays =
       let p = both (not (ready && broken) && eqb (s .guard) 0) _ h in
       let q = both (not (ready && broken)) _ (p .0) in
       let g : s .guard ≡ 0 = eqb-true (s .guard) 0 (q .1) in
       rw (t, not-so (ready && broken) (q .0), le-ltb 0 (s .guard) (omega (arith, g)), not-so (ready && on (s .full)) (p .1))
-      (ap (idleTick s true) (let e : s .guard - 1 ≡ s .guard = omega (arith, g) in e))
+      (ap (idleTick (senderLater 1 s) true) (let e : s .guard - 1 ≡ s .guard = omega (arith, g) in e))
 
-pub rests-still : (d : Device) → rests d ≡ true → transmitTick d ≡ ticked 1 d
+pub rests-still : (d : Device) → rests d ≡ true → transmitTick d ≡ ticked 1 (sendCounted d)
 unfolding rests transmitTick
 rests-still d e =
     let t = both (not (on (d .sender .frame .place))) _ e in
@@ -45,7 +46,7 @@ rests-still d e =
 -- == a receive tick ==
 
 module _ (d : Device) (h : inRange d ≡ true) (x : ℕ) where
-  pub searches-still : searches d x ≡ true → receiveTick d (on x) ≡ d
+  pub searches-still : searches d x ≡ true → receiveTick d (on x) ≡ hearCounted d
   unfolding searches receiveTick
   searches-still e =
       let t = both (on x && listening d) _ e in
@@ -57,6 +58,6 @@ module _ (d : Device) (h : inRange d ≡ true) (x : ℕ) where
       ∙ rest-stays (d .receiver) 1 true true f (stays true true) (is-clear (d .receiver) 1 p (in-range-clear (d .receiver) (parts d h .receiver) (omega (arith, p)))))
 
   -- both ticks of it
-  pub still-stays : still d x ≡ true → bothTicks d (on x) ≡ ticked 1 d
-  unfolding still
-  still-stays e = let t = both (searches d x) _ e in ap transmitTick (searches-still (t .0)) ∙ rests-still d (t .1)
+  pub still-stays : still d x ≡ true → bothTicks d (on x) ≡ ticked 1 (bothCounted d)
+  unfolding still rests
+  still-stays e = let t = both (searches d x) _ e in ap transmitTick (searches-still (t .0)) ∙ rests-still (hearCounted d) (t .1)

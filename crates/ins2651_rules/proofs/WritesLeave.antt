@@ -190,7 +190,7 @@ pub record CommandWritten (v : ℕ) (d e : Device) : Type 0 where
   pub errors : ErrorsBy v (d .flags) (e .flags)
   pub empty-cleared : has 1 v ≡ false → e .flags .empty ≡ 0
   pub empty-kept : has 1 v ≡ true → e .flags .empty ≡ d .flags .empty
-  pub receiver-off : has 4 v ≡ false → Dropped (d .receiver) 0 (e .receiver)
+  pub receiver-off : has 4 v ≡ false → Dropped (d .receiver) 0 (d .receiver .tally) (e .receiver)
   pub receiver-kept : has 4 v ≡ true → e .receiver ≡ d .receiver
   pub modes : SameModes (d .registers) (e .registers)
   pub syns : SameSyns (d .registers) (e .registers)
@@ -206,7 +206,7 @@ command-written d v =
       errors = errors-by (d .flags) v;
       empty-cleared = λ t. rw t;
       empty-kept = λ t. rw t;
-      receiver-off = λ t. rw t (record { state = refl; format = refl; holding = refl; unread = refl });
+      receiver-off = λ t. rw t (record { state = refl; format = refl; holding = refl; unread = refl; stamp = refl; tally = refl });
       receiver-kept = λ t. rw t;
       modes = modes-are _;
       syns = syns-are _;

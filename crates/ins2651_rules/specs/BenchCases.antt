@@ -32,9 +32,11 @@ pub data Question : Type 0 where
 
 -- == what is answered ==
 
--- a character that came: the number of its stop sample, its value, and its flags, 32 for framing plus 8 for parity
+-- a character that came: the number of its stop sample in its recording, its stamp, which counts the samples of the recordings before too, its value,
+-- and its flags, 32 for framing plus 8 for parity
 pub record Came : Type 0 where
   pub at : ℕ
+  pub stamp : ℕ
   pub value : ℕ
   pub flags : ℕ
 
@@ -55,7 +57,7 @@ abbrev pub receiveTicks : List Bool → List Call
 receiveTicks xs = map (λ (x : Bool). Receive (bit x)) xs
 
 abbrev pub asCame : Arrived → Came
-asCame a = record { at = a .at; value = a .arrival .value; flags = 32 * bit (a .arrival .framing) + 8 * bit (a .arrival .parity) }
+asCame a = record { at = a .at; stamp = a .arrival .stamp .0; value = a .arrival .value; flags = 32 * bit (a .arrival .framing) + 8 * bit (a .arrival .parity) }
 
 abbrev pub recorded : Device → List Bool → Recorded
 recorded d xs =
@@ -105,13 +107,13 @@ table =
     -- 8 bits, no parity, 1 stop, F = 16: 8 zeros, 9 zeros, 200 zeros. 197 is DSR, DCD, the change-mark of the set-up and bit 0
     ∷ row (Hears 78 (pulse 8 ∷ [])) (Recordings (record { came = []; status = 197; rhr = 0 } ∷ []))
     ∷ row (Hears 78 (pulse 9 ∷ []))
-    (Recordings (record { came = record { at = 154; value = 255; flags = 0 } ∷ []; status = 199; rhr = 255 } ∷ []))
+    (Recordings (record { came = record { at = 154; stamp = 154; value = 255; flags = 0 } ∷ []; status = 199; rhr = 255 } ∷ []))
     ∷ row (Hears 78 ((true ∷ replicate 200 false) ∷ []))
-    (Recordings (record { came = record { at = 154; value = 0; flags = 32 } ∷ []; status = 231; rhr = 0 } ∷ []))
+    (Recordings (record { came = record { at = 154; stamp = 154; value = 0; flags = 32 } ∷ []; status = 231; rhr = 0 } ∷ []))
     -- 255 sent under 126 and received under 94 (odd), then a good character: the flag stays
     ∷ row (Hears 94 ((true ∷ frame (externalFormat 126) 255) ∷ frame (externalFormat 94) 100 ∷ []))
     (Recordings
-    (record { came = record { at = 170; value = 255; flags = 8 } ∷ []; status = 207; rhr = 255 }
-    ∷ record { came = record { at = 169; value = 100; flags = 0 } ∷ []; status = 203; rhr = 100 }
+    (record { came = record { at = 170; stamp = 170; value = 255; flags = 8 } ∷ []; status = 207; rhr = 255 }
+    ∷ record { came = record { at = 169; stamp = 346; value = 100; flags = 0 } ∷ []; status = 203; rhr = 100 }
     ∷ []))
     ∷ []

@@ -6,9 +6,11 @@ use mathlib.Core.Bool.{Bool, true, false, cond, not, _&&_, _||_}
 use mathlib.Core.List.{List, [], _∷_}
 use lib.Dec.{leb, eqb}
 use Rattle.line_rules.specs.declared.Format.{Format}
+use Rattle.line_rules.specs.declared.RxC.{RxC}
 use Rattle.line_rules.specs.Sending.{on}
 use Rattle.line_rules.specs.Arrived.{Arrived}
 use Rattle.line_rules.specs.Receiving.{tell}
+use Rattle.link_rules.specs.declared.ReceiverHalf.{ReceiverHalf}
 use Rattle.ins2651_rules.specs.declared.Device.{Device}
 use Rattle.ins2651_rules.specs.Modes.{receiveFormat}
 use Rattle.ins2651_rules.specs.Conditions.{listening}
@@ -71,10 +73,18 @@ abbrev pub arrivedIn : Device → ℕ → List Call → List Arrived
 arrivedIn d k [] = []
 arrivedIn d k (c ∷ cs) = ifSample c (λ (x : Bool). tell (suc k) (received (settled d) x .heard) (arrivedIn (next d c) (suc k) cs)) (arrivedIn (next d c) k cs)
 
--- the value of the last arrival, or v where there is none
-abbrev pub lastValue : ℕ → List Arrived → ℕ
-lastValue v [] = v
-lastValue v (a ∷ as') = lastValue (a .arrival .value) as'
+-- a character as RHR holds it, with its stamp
+pub record Held : Type 0 where
+  pub value : ℕ
+  pub stamp : RxC
+
+abbrev pub held : ReceiverHalf → Held
+held r = record { value = r .holding; stamp = r .stamp }
+
+-- the last arrival so, or h where there is none
+abbrev pub lastHeld : Held → List Arrived → Held
+lastHeld h [] = h
+lastHeld h (a ∷ as') = lastHeld (record { value = a .arrival .value; stamp = a .arrival .stamp }) as'
 
 -- receive is on, DCD low, a mode set, and the receiver's format is f
 pub record Listens (f : Format) (d : Device) : Type 0 where

@@ -1,4 +1,4 @@
--- Rules of document 01 and of request P1 as computed scripts, beside the starred bench cases: calls from reset, each with what it answers where that can be seen
+-- Rules of document 01 and of requests P1 and P4 as computed scripts, beside the starred bench cases: calls from reset, each with what it answers where that can be seen
 -- (proofs/RuleRows.antt). They see the chip through its calls alone, so that a rule that is wrong in its one definition is refused here. What a
 -- SYN write stores cannot be seen from outside yet: no call gives it.
 -- Assumes nothing.
@@ -9,19 +9,23 @@ use lib.Dec.{eqb}
 use lib.ListN.{length, replicate}
 use Rattle.ins2651_rules.specs.declared.Device.{Device}
 use Rattle.ins2651_rules.specs.RegisterReads.{read}
+use Rattle.ins2651_rules.specs.Stamps.{stamp, start, transmitTally, receiveTally}
 use Rattle.ins2651_rules.specs.Runs.{Call, Reset, Read, Write, SetPins, Transmit, Receive, after, said}
 use Rattle.ins2651_rules.specs.Line.{levelsSent}
 
 -- == a script ==
 
 -- a call that is done, or refused with a number; transmit ticks, by the levels that they send; receive ticks, by the levels that they are given,
--- of which nothing is seen; a read of an address that is done, and its value
+-- of which nothing is seen; a read of an address that is done, and its value; both tallies; the start of the last frame and the stamp of the held
+-- character
 pub data Step : Type 0 where
   Do : Call → Step
   Refused : Call → ℕ → Step
   TxD : List ℕ → Step
   RxD : List ℕ → Step
   Reads : (address value : ℕ) → Step
+  Tallies : (transmit receive : ℕ) → Step
+  Stamps : (start stamp : ℕ) → Step
 
 abbrev pub calls : Step → List Call
 calls (Do c) = c ∷ []
@@ -29,6 +33,8 @@ calls (Refused c n) = c ∷ []
 calls (TxD xs) = replicate (length xs) Transmit
 calls (RxD xs) = map Receive xs
 calls (Reads address v) = Read address ∷ []
+calls (Tallies t r) = []
+calls (Stamps s a) = []
 
 abbrev pub doneOr : Call → ℕ → Step
 doneOr c n = cond (eqb n 0) (Do c) (Refused c n)
@@ -39,6 +45,8 @@ asAnswered d (Do c) = doneOr c (said d c .refusal)
 asAnswered d (Refused c n) = doneOr c (said d c .refusal)
 asAnswered d (TxD xs) = TxD (levelsSent d (replicate (length xs) Transmit))
 asAnswered d (RxD xs) = RxD xs
+asAnswered d (Tallies t r) = Tallies (transmitTally d .0) (receiveTally d .0)
+asAnswered d (Stamps s a) = Stamps (start d .0) (stamp d .0)
 asAnswered d (Reads address v) = cond (eqb (read d address .refusal) 0) (Reads address (read d address .value)) (Refused (Read address) (read d address .refusal))
 
 abbrev pub played : Device → List Step → List Step
@@ -252,5 +260,26 @@ hearingScripts =
     ∷ Reads 0 1 ∷ good ∷ Status (pinsLow192 + allThree56 + unread2 + ready1) ∷ [])
     ∷ []
 
+-- == tallies and stamps: request P4 ==
+
+-- what both tallies and both stamps are as a script's calls leave them: `good` is nine samples, whose last is the stop's
+abbrev stampScripts : List (List Step)
+stampScripts =
+    -- as reset leaves them; a tick counts on its own clock alone, and a refused one counts nothing
+    (Tallies 0 0 ∷ Stamps 0 0 ∷ TxD (ones 3) ∷ Tallies 3 0 ∷ RxD (ones 2) ∷ Tallies 3 2 ∷ Refused (Receive 2) 2 ∷ Refused (Receive 255) 2 ∷ Tallies 3 2 ∷ Stamps 0 0 ∷ Do Reset ∷ Tallies 0 0 ∷ [])
+    -- mode unset, receive off, DCD high, transmit off, CTS high: all count; no other call does
+    ∷ (hearing ++ Tallies 0 0 ∷ command 0 ∷ RxD (zeros 2) ∷ TxD (ones 2) ∷ Tallies 2 2 ∷ command enabled ∷ Do (SetPins 1 1 1) ∷ RxD (ones 3) ∷ TxD (ones 1) ∷ Tallies 3 5
+    ∷ Reads 0 0 ∷ Reads 2 113 ∷ Reads 2 0 ∷ Reads 3 enabled ∷ thr 7 ∷ Do (Write 1 5) ∷ Refused (Read 4) 1 ∷ Refused (Write 3 64) 5 ∷ Refused (SetPins 2 0 0) 2 ∷ Tallies 3 5 ∷ [])
+    -- a character has the tally after its stop sample's tick: not that of the tick before it, nor of its start; samples behind it leave it
+    ∷ (hearing ++ RxD (ones 4) ∷ good ∷ Tallies 0 13 ∷ Stamps 0 13 ∷ RxD (ones 6) ∷ Tallies 0 19 ∷ Stamps 0 13 ∷ [])
+    -- a read, a second one, an RHR emptied by a command and ticks while receive is off leave it; the next arrival replaces it, read ..
+    ∷ (hearing ++ good ∷ Reads 0 1 ∷ Stamps 0 9 ∷ Reads 0 1 ∷ Stamps 0 9 ∷ command 1 ∷ Stamps 0 9 ∷ RxD (ones 2) ∷ command enabled ∷ good ∷ Stamps 0 20 ∷ Reads 0 1 ∷ Stamps 0 20 ∷ [])
+    -- .. or unread, with an overrun or with a bad stop
+    ∷ (hearing ++ good ∷ good ∷ Stamps 0 18 ∷ stopOf0 ∷ Stamps 0 27 ∷ Reads 0 1 ∷ [])
+    -- a frame's start is the transmit tally after its first tick, to the first tick of the next; a break, a guard and mark begin none
+    ∷ (prepared 65 0 ++ TxD (ones 2) ∷ Stamps 0 0 ∷ thr 255 ∷ TxD (zeros 1) ∷ Stamps 3 0 ∷ TxD (ones 6) ∷ Tallies 9 0 ∷ Stamps 3 0 ∷ TxD (ones 2)
+    ∷ command (enabled + 8) ∷ TxD (zeros 3) ∷ command enabled ∷ TxD (ones 1) ∷ Stamps 3 0 ∷ thr 255 ∷ Stamps 3 0 ∷ TxD (zeros 1) ∷ Stamps 16 0 ∷ Tallies 16 0 ∷ Do Reset ∷ Stamps 0 0 ∷ [])
+    ∷ []
+
 abbrev pub scripts : List (List Step)
-scripts = sendingScripts ++ emptyMarkScripts ++ permissionScripts ++ readBackScripts ++ hearingScripts
+scripts = sendingScripts ++ emptyMarkScripts ++ permissionScripts ++ readBackScripts ++ hearingScripts ++ stampScripts

@@ -4,7 +4,7 @@
 use Prim.Native.Nat.{ℕ}
 use Rattle.link_rules.specs.declared.SenderHalf.{SenderHalf}
 use Rattle.link_rules.specs.declared.ReceiverHalf.{ReceiverHalf}
-use Rattle.link_rules.specs.Parts.{idleSender, idleReceiver}
+use Rattle.link_rules.specs.Parts.{idleSender, idleReceiver, senderLater, receiverLater}
 use Rattle.ins2651_rules.specs.declared.Registers.{Registers}
 use Rattle.ins2651_rules.specs.declared.Pins.{Pins}
 use Rattle.ins2651_rules.specs.declared.Flags.{Flags}
@@ -31,6 +31,20 @@ withSender d s f = withParts d (d .registers) (d .pins) s (d .receiver) f
 
 abbrev pub withReceiver : Device → ReceiverHalf → Flags → Device
 withReceiver d h f = withParts d (d .registers) (d .pins) (d .sender) h f
+
+-- with one transmit tick more in its tally, one receive tick more, or one of each (P4)
+abbrev pub sendCounted : Device → Device
+sendCounted d = withSender d (senderLater 1 (d .sender)) (d .flags)
+
+abbrev pub hearCounted : Device → Device
+hearCounted d = withReceiver d (receiverLater 1 (d .receiver)) (d .flags)
+
+abbrev pub bothCounted : Device → Device
+bothCounted d = sendCounted (hearCounted d)
+
+-- with n ticks more in both
+abbrev pub deviceLater : ℕ → Device → Device
+deviceLater n d = withParts d (d .registers) (d .pins) (senderLater n (d .sender)) (receiverLater n (d .receiver)) (d .flags)
 
 -- == registers ==
 

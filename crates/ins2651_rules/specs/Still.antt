@@ -1,5 +1,5 @@
--- Ticks that change nothing: document 01, "Sending, by transmit ticks" and "Receiving, by receive ticks". A host that keeps a device need not store it
--- after one of them (proofs/StaysStill.antt).
+-- Ticks that change nothing but the tally of their clock: document 01, "Sending, by transmit ticks" and "Receiving, by receive ticks"; P4. A host that
+-- keeps a device stores no more than that after one of them (proofs/StaysStill.antt).
 -- Assumes nothing.
 use Prim.Native.Nat.{ℕ}
 use mathlib.Core.Bool.{Bool, not, _&&_}

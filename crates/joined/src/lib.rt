@@ -8,7 +8,7 @@ ghost use Rattle.ins2651_rules.specs.Ranges.{inRange};
 ghost use Rattle.joined_rules.specs.Joining;
 ghost use Rattle.joined_rules.specs.Joining.{settledPair, joinedTick, joinedTicks, ticks};
 ghost use Rattle.joined_rules.specs.TwoWays;
-ghost use Rattle.joined_rules.specs.TwoWays.{endsOf, wayOf, withEnds, withWays};
+ghost use Rattle.joined_rules.specs.TwoWays.{endsOf, wayOf, withEnds, withWays, pairLater};
 ghost use Rattle.joined_rules.specs.Waiting;
 ghost use Rattle.joined_rules.specs.Waiting.{waited, waitedOn};
 ghost use Rattle.ins2651_ends.specs.OnALine as chip;
@@ -148,7 +148,7 @@ fn ticks_on(p: Pair, n: u16) -> Pair
     with_ways(p, there, back)
 }
 
-// Whether no tick changes the way from a to b.
+// Whether no tick changes more of the way from a to b than its tallies.
 fn way_stands(a: Device, b: Device) -> bool
     ensures { λ r. ⌜ r ≡ wayStands (endsOf a b) (wayOf a b) ⌝ }
 {
@@ -160,7 +160,7 @@ fn way_stands(a: Device, b: Device) -> bool
         & way::receiver_stands(b.receiver, live, !(ready & broken))
 }
 
-// Whether no tick changes the pair, in range on both sides: a host need not store it after a run or a wait. The ranges are asked last.
+// Whether no tick changes more of the pair than its tallies, in range on both sides: n ticks of it are `later`. The ranges are asked last.
 pub fn stands(p: Pair) -> bool
     ensures { λ r. ⌜ r ≡ TwoWays.stands p ⌝ }
 {
@@ -169,6 +169,16 @@ pub fn stands(p: Pair) -> bool
         return ins2651::rests_in_range(p.a) & ins2651::rests_in_range(p.b);
     }
     false
+}
+
+// A pair with n ticks more in its four tallies (P4).
+pub fn later(p: Pair, n: u16) -> Pair
+    ensures { λ r. ⌜ r ≡ pairLater n p ⌝ }
+{
+    Pair {
+        a: ins2651::later(p.a, n),
+        b: ins2651::later(p.b, n),
+    }
 }
 
 // n joined ticks; the ranges are checked once, and a pair in range is not copied.

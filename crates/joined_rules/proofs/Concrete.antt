@@ -18,6 +18,7 @@ use Rattle.ins2651_rules.specs.Refusals.{writeRefusal}
 use Rattle.ins2651_rules.specs.RegisterReads.{readRegister, read}
 use Rattle.ins2651_rules.specs.RegisterWrites.{writeRegister, write}
 use Rattle.ins2651_rules.specs.Pinning.{pinned, setPins}
+use Rattle.ins2651_rules.specs.Stamps.{stamp}
 use Rattle.ins2651_rules.specs.Ticks.{transmitTick, transmit, receiveTick, receive}
 use Rattle.ins2651_rules.specs.Runs.{Reset, Read, Write, SetPins, Transmit, Receive, Outputs, said}
 use Rattle.ins2651_ends.specs.OnALine.{statusBit}
@@ -70,6 +71,11 @@ session-allowed = refl
 pub session-told : told (start worked worked) session ≡ 197 ∷ 195 ∷ 255 ∷ 193 ∷ []
 unfolding part oddOnes parityBit sample link-transmitting.transmit link-hearing.receive line-range.inRange senderInRange receiverInRange formatOf statusByte inRange settled writeRefusal readRegister read writeRegister write pinned setPins transmitTick transmit receiveTick receive tick
 session-told = refl
+
+-- and its stamp is 154: the 153 ticks to it, and the set-up's
+pub session-stamped : stamp (runs (start worked worked) session .pair .b) ≡ record { 0 = 154 }
+unfolding part oddOnes parityBit sample link-transmitting.transmit link-hearing.receive line-range.inRange senderInRange receiverInRange formatOf statusByte inRange settled writeRefusal readRegister read writeRegister write pinned setPins transmitTick transmit receiveTick receive tick stamp
+session-stamped = refl
 
 pub session-right : Right worked worked (runs (start worked worked) session)
 session-right = demand-3 worked worked worked-proper worked-proper worked-agrees justReset (sequences worked worked) (sequence-sets-up worked worked justReset worked-proper worked-proper) session session-allowed

@@ -10,5 +10,6 @@ pub mod TwoWays
 pub mod RunsRefused
 pub mod Standing
 pub mod Waits
+pub mod RunsCount
 pub mod WaitsInTime
 pub mod WaitsComputed

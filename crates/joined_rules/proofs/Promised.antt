@@ -10,10 +10,14 @@ use lib.ListN.{replicate}
 use lib.Dec.{eqb}
 use borrow.Author.Tests.{ne-eqb}
 use Rattle.line_rules.specs.declared.Format.{Format}
+use Rattle.line_rules.specs.declared.RxC.{RxC}
+use Rattle.line_rules.specs.Clocks.{rxLater}
+use Rattle.ins2651_rules.specs.Stamps.{stamp}
 use Rattle.line_rules.specs.Sending.{frameLength}
 use Rattle.line_rules.specs.Sees.{Alike}
 use Rattle.line_rules.proofs.Table.{both}
 use Rattle.line_rules.proofs.Choice.{all, each, either, neither}
+use Rattle.link_rules.specs.declared.SenderHalf.{SenderHalf}
 use Rattle.link_rules.specs.declared.ReceiverHalf.{ReceiverHalf}
 use Rattle.ins2651_rules.specs.declared.Device.{Device}
 use Rattle.ins2651_rules.specs.Modes.{sendFormat, receiveFormat}
@@ -29,14 +33,14 @@ use Rattle.ins2651_ends.proofs.Hearing.{Hearing, receiving-end}
 use Rattle.ins2651_ends.proofs.Untouched.{Untouched, untouched-sends, untouched-hears, sends-to}
 use Rattle.delivery.specs.OneWay.{Deed, Ticks, Writes, Reads, Passes, later, Logged, noLog, permits}
 use Rattle.delivery.specs.OneWay as one-way
-use Rattle.delivery.specs.Promise.{Idles, Promised}
+use Rattle.delivery.specs.Promise.{Idles, Stamped, Promised}
 use Rattle.delivery.specs.Joined.{Side, A, B, other}
-use Rattle.delivery.specs.Ends.{Fit, Begins}
-use Rattle.delivery.proofs.Joined.{line-begins, line-delivers, line-idles}
+use Rattle.delivery.specs.Ends.{Fit, Idle, Begins}
+use Rattle.delivery.proofs.Joined.{line-begins, line-counts, line-delivers, line-stamps, line-idles}
 use Rattle.joined_rules.specs.declared.Pair.{Pair}
 use Rattle.joined_rules.specs.Joining.{tick, ticks}
 use Rattle.joined_rules.specs.Bench.{deviceAt, Step, Tick, At, allMoved, deedFrom, wayFrom, Bench, seenFrom, clock, step, runs}
-use Rattle.joined_rules.specs.Demand3.{Settings, settingsAt, Proper, sends, receives, Agree, FromReset, Holds, FreshlySetUp, fresh, harmless, allowedCall, allowed, allAllowed, NoFlag, Right, Seen, Open}
+use Rattle.joined_rules.specs.Demand3.{Settings, settingsAt, Proper, sends, receives, Agree, FromReset, Holds, FreshlySetUp, fresh, harmless, allowedCall, allowed, allAllowed, NoFlag, Right, firstTally, StampedRight, Seen, Open}
 use Rattle.joined_rules.proofs.SetUps.{set-up-untouched, is-normal, starts, no-break, listens, sends-so, receives-so}
 use Rattle.joined_rules.proofs.Ways.{pair-joins}
 
@@ -69,16 +73,34 @@ module _ (s : Side) (p : Pair) (us : List Step) (up : FromReset us) (opened : Op
   abbrev start : Pair
   start = tick set .pair
 
+  idle : Idle (from .sender)
+  idle =
+      let e = untouched s .sender in
+      record { frame = ap (λ (h : SenderHalf). h .frame) e; empty = ap (λ (h : SenderHalf). h .full) e; guard = ap (λ (h : SenderHalf). h .guard) e }
+
   begins : Begins (λ p. Sending f (deviceAt s p)) (λ p. Hearing g (deviceAt (other s) p)) (λ p. deviceAt s p .sender) (λ p. deviceAt (other s) p .receiver) start
   begins =
       line-begins pair-joins s (sending-end f) (receiving-end g) set Tick refl (untouched-sends from (untouched s) (opened .starts) (opened .no-break))
-      (untouched-hears to (untouched (other s)) (opened .listens)) (untouched s .sender)
+      (untouched-hears to (untouched (other s)) (opened .listens)) idle
       (ap (λ (r : ReceiverHalf). r .state) (untouched (other s) .receiver)) (ap (λ (r : ReceiverHalf). r .unread) (untouched (other s) .receiver))
+
+  -- which is the first of both tallies
+  counted : deviceAt (other s) start .receiver .tally ≡ firstTally
+  counted =
+      line-counts pair-joins s (sending-end f) (receiving-end g) set Tick refl (untouched-hears to (untouched (other s)) (opened .listens))
+      ∙ ap (λ (r : ReceiverHalf). rxLater 1 (r .tally)) (untouched (other s) .receiver)
 
   -- then any steps that are allowed on this way: demand 3 for it, whatever happens on the other
   module _ (ss : List Step) (ok : one-way.allAllowed (wayFrom s) (frameLength f) (noLog start) ss ≡ true) where
     pub one-way-right : Promised (wayFrom s) f (one-way.runs (wayFrom s) (noLog start) ss)
     one-way-right = line-delivers pair-joins s (sending-end f) (receiving-end g) fit start begins ss ok
+
+    -- a character's stamp is 1 plus the joined tick of its arrival
+    pub one-way-stamps : let end = one-way.runs (wayFrom s) (noLog start) ss in Stamped firstTally (stamp (deviceAt (other s) (end .bench))) (end .log .came)
+    one-way-stamps =
+        let end = one-way.runs (wayFrom s) (noLog start) ss in
+        subst (λ (t : RxC). Stamped t (stamp (deviceAt (other s) (end .bench))) (end .log .came)) counted
+        (line-stamps pair-joins s (sending-end f) (receiving-end g) fit start begins ss ok)
 
     -- 'idle', as the promise reads it from the log, is what it is in the device
     pub one-way-idles : let end = one-way.runs (wayFrom s) (noLog start) ss in Idles f (deviceAt s (end .bench) .sender) (end .now) (end .log .written)
@@ -266,6 +288,15 @@ module _ (a b : Settings) (pa : Proper a) (pb : Proper b) (agree : Agree a b) (p
         a-clean = clean (end .pair .a) (bench-right B .no-flag);
         b-clean = clean (end .pair .b) (bench-right A .no-flag);
       }
+
+  -- and its stamps
+  bench-stamps : (s : Side) → let w = seenFrom s end in Stamped firstTally (stamp (deviceAt (other s) (w .bench))) (w .log .came)
+  bench-stamps s =
+      subst (λ (w : Logged Pair). Stamped firstTally (stamp (deviceAt (other s) (w .bench))) (w .log .came)) (ends-as s)
+      (one-way-stamps s p us (up .from-reset) (is-open s) ss (ok-each s))
+
+  pub demand-3-stamps : StampedRight end
+  demand-3-stamps = record { there = bench-stamps A; back = bench-stamps B }
 
   -- what the bench sees of it
   pub bench-sees : Seen a b end

@@ -1,4 +1,4 @@
--- A pair that stands is left as it is by any number of joined ticks, and a pair in range that a tick leaves as it is stands.
+-- A pair that stands is left as it is by any number of joined ticks but for its tallies, and a pair in range of which a tick moves no more stands.
 -- Assumes nothing.
 use Prim.Native.Nat.{ℕ}
 use mathlib.Core.Path.{_≡_, ap, ap₂, sym, _∙_}
@@ -23,13 +23,13 @@ use Rattle.ins2651_rules.proofs.RestsInRange.{rests-in-range}
 use Rattle.joined_rules.specs.declared.Pair.{Pair}
 use Rattle.joined_rules.specs.declared.Joined.{Joined}
 use Rattle.joined_rules.specs.Joining.{joinedTick, tick, ticks}
-use Rattle.joined_rules.specs.TwoWays.{endsOf, wayOf, withWays, alongBoth, stands}
+use Rattle.joined_rules.specs.TwoWays.{endsOf, wayOf, withWays, alongBoth, pairLater, stands}
 use Rattle.joined_rules.proofs.Runs.{BothIn, settled-pair, tick-is, in-range-ticks}
 use Rattle.joined_rules.proofs.TwoWays.{both-move, two-ways}
 
-pub stands-stays : (p : Pair) (n : ℕ) → stands p ≡ true → ticks n p ≡ p
+pub stands-counts : (p : Pair) (n : ℕ) → stands p ≡ true → ticks n p ≡ pairLater n p
 unfolding stands alongBoth
-stands-stays p n h =
+stands-counts p n h =
     let there : Bool = wayStands (endsOf (p .a) (p .b)) (wayOf (p .a) (p .b)) in
     let back : Bool = wayStands (endsOf (p .b) (p .a)) (wayOf (p .b) (p .a)) in
     let b = both (there && back && inRange (p .a)) (inRange (p .b)) h in
@@ -39,13 +39,13 @@ stands-stays p n h =
     ∙ two-ways n p
     ∙ ap₂ (withWays p) (way-stands (endsOf (p .a) (p .b)) n (wayOf (p .a) (p .b)) (s .0)) (way-stands (endsOf (p .b) (p .a)) n (wayOf (p .b) (p .a)) (s .1))
 
--- .. and of the pairs in range a single tick changes every other: one that it leaves as it is has both ways left so
-pub unchanged-pair-stands : (p : Pair) → BothIn p → tick p .pair ≡ p → stands p ≡ true
+-- .. and of the pairs in range a single tick changes more of every other: one of which it only counts has both ways left so
+pub counted-pair-stands : (p : Pair) → BothIn p → tick p .pair ≡ pairLater 1 p → stands p ≡ true
 unfolding stands
-unchanged-pair-stands p i h =
+counted-pair-stands p i h =
     let there : Way = wayTick (endsOf (p .a) (p .b)) (wayOf (p .a) (p .b)) in
     let back : Way = wayTick (endsOf (p .b) (p .a)) (wayOf (p .b) (p .a)) in
-    let same : withWays p there back ≡ p = sym (ap (λ (o : Joined). o .pair) (tick-is p ∙ ap joinedTick (settled-pair p i)) ∙ both-move p) ∙ h in
+    let same : withWays p there back ≡ pairLater 1 p = sym (ap (λ (o : Joined). o .pair) (tick-is p ∙ ap joinedTick (settled-pair p i)) ∙ both-move p) ∙ h in
     let s = unchanged-stands (endsOf (p .a) (p .b)) (wayOf (p .a) (p .b)) (parts (p .b) (i .b) .receiver) (ap (λ (q : Pair). wayOf (q .a) (q .b)) same) in
     let r = unchanged-stands (endsOf (p .b) (p .a)) (wayOf (p .b) (p .a)) (parts (p .a) (i .a) .receiver) (ap (λ (q : Pair). wayOf (q .b) (q .a)) same) in
     all (all (all s r) (i .a)) (i .b)

@@ -14,6 +14,10 @@ use Rattle.way_rules.specs.Along.{wayTicks}
 use Rattle.way_rules.specs.Until.{LeastBelow, untilUnread}
 use Rattle.way_rules.specs.Until as way
 use Rattle.way_rules.proofs.Until.{is-least, same-below, none-below}
+use Rattle.link_rules.specs.Within.{senderInRange, receiverInRange}
+use Rattle.ins2651_rules.specs.declared.Device.{Device}
+use Rattle.ins2651_rules.specs.Shape.{resetDevice, deviceLater}
+use Rattle.ins2651_rules.specs.Ranges.{inRange, settled}
 use Rattle.ins2651_ends.specs.OnALine as chip
 use Rattle.ins2651_ends.proofs.Calls.{unread-is, unread-taken}
 use Rattle.delivery.specs.Joined.{Side, A, B}
@@ -23,12 +27,12 @@ use Rattle.joined_rules.specs.declared.Unit.the-variants as unit
 use Rattle.joined_rules.specs.declared.Waited.{Waited}
 use Rattle.joined_rules.specs.Joining.{ticks, run, settledPair, joinedTicks}
 use Rattle.joined_rules.specs.Bench.{deviceAt}
-use Rattle.joined_rules.specs.TwoWays.{alongBoth, stands}
+use Rattle.joined_rules.specs.TwoWays.{alongBoth, pairLater, stands}
 use Rattle.joined_rules.specs.Waiting.{sideOf, unread, ticksUntil, unspent, waited, wait, joinedUntil, waitedOn, endsTo, wayTo}
 use Rattle.joined_rules.proofs.Runs.{BothIn, settled-both, settled-ticks, joined-ticks-in}
 use Rattle.joined_rules.proofs.TwoWays.{two-ways}
 use Rattle.joined_rules.proofs.RunsRefused.{run-done}
-use Rattle.joined_rules.proofs.Standing.{stands-stays}
+use Rattle.joined_rules.proofs.Standing.{stands-counts}
 
 -- == refused or done ==
 
@@ -74,11 +78,24 @@ pub wait-there : (p : Pair) (u : Unit) (limit : ℕ) → unread u p ≡ true →
 wait-there p u zero h = refl
 wait-there p u (suc n) h = ap (λ (k : ℕ). record { refusal = 0; count = k; pair = ticks k p }) (let q : ticksUntil p u (suc n) ≡ 0 = rw h in q)
 
+-- tallies do not matter to what is unread
+unread-so : (n : ℕ) (d : Device) → chip.unread (deviceLater n d) ≡ chip.unread d
+unfolding settled inRange senderInRange receiverInRange
+unread-so n d = unread-taken (deviceLater n d) ∙ ap on (go (inRange d)) ∙ sym (unread-taken d)
+  where
+    go : (b : Bool) → cond b (deviceLater n d) resetDevice .receiver .unread ≡ cond b d resetDevice .receiver .unread
+    go true = refl
+    go false = refl
+
+unread-later : (u : Unit) (p : Pair) (n : ℕ) → unread u (pairLater n p) ≡ unread u p
+unread-later unit.A p n = unread-so n (p .a)
+unread-later unit.B p n = unread-so n (p .b)
+
 -- all of the limit where the pair stands and none was there
-pub wait-stands : (p : Pair) (u : Unit) (limit : ℕ) → stands p ≡ true → unread u p ≡ false → waited p u limit ≡ record { refusal = 0; count = limit; pair = p }
+pub wait-stands : (p : Pair) (u : Unit) (limit : ℕ) → stands p ≡ true → unread u p ≡ false → waited p u limit ≡ record { refusal = 0; count = limit; pair = pairLater limit p }
 wait-stands p u limit s h =
-    let none : ticksUntil p u limit ≡ limit = none-below limit (λ k. unread u (ticks k p)) (λ k. ap (unread u) (stands-stays p k s) ∙ h) in
-    ap (λ (k : ℕ). record { refusal = 0; count = k; pair = ticks k p }) none ∙ ap (λ (q : Pair). record { refusal = 0; count = limit; pair = q }) (stands-stays p limit s)
+    let none : ticksUntil p u limit ≡ limit = none-below limit (λ k. unread u (ticks k p)) (λ k. ap (unread u) (stands-counts p k s) ∙ unread-later u p k ∙ h) in
+    ap (λ (k : ℕ). record { refusal = 0; count = k; pair = ticks k p }) none ∙ ap (λ (q : Pair). record { refusal = 0; count = limit; pair = q }) (stands-counts p limit s)
 
 -- == on a pair in range ==
 

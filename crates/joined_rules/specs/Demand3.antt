@@ -8,6 +8,7 @@ use mathlib.Core.Bool.{Bool, true, false, cond, _&&_}
 use mathlib.Core.List.{List, [], _∷_}
 use lib.Dec.{ltb, eqb}
 use Rattle.line_rules.specs.declared.Format.{Format}
+use Rattle.line_rules.specs.declared.RxC.{RxC}
 use Rattle.line_rules.specs.Sending.{frameLength}
 use Rattle.line_rules.specs.Sees.{Alike}
 use Rattle.ins2651_rules.specs.declared.Device.{Device}
@@ -15,12 +16,13 @@ use Rattle.ins2651_rules.specs.Modes.{has, formatOf, sendFormat, receiveFormat}
 use Rattle.ins2651_rules.specs.Conditions.{mayStart, breakOn, listening}
 use Rattle.ins2651_rules.specs.Refusals.{mode1Refusal, commandRefusal}
 use Rattle.ins2651_rules.specs.RegisterWrites.{stored}
+use Rattle.ins2651_rules.specs.Stamps.{stamp}
 use Rattle.ins2651_rules.specs.Runs.{Call, Reset, Write, SetPins, byCall, otherwise, atRead, atWrite, atPins, atOutputs}
 use Rattle.ins2651_ends.specs.OnALine.{statusBit, mayWrite, unread, normal, refusedOr}
 use Rattle.ins2651_ends.specs.Fresh.{allQuiet, quietSinceReset}
 use Rattle.delivery.specs.Log.{nothingYet}
 use Rattle.delivery.specs.OneWay.{inTime}
-use Rattle.delivery.specs.Promise.{hasBegun, Delivered, Fetched, FirstWrites}
+use Rattle.delivery.specs.Promise.{hasBegun, Delivered, Fetched, FirstWrites, Stamped}
 use Rattle.delivery.specs.Joined.{Side, A, B, other}
 use Rattle.joined_rules.specs.declared.Pair.{Pair}
 use Rattle.joined_rules.specs.Joining.{tick}
@@ -153,6 +155,15 @@ pub record Right (a b : Settings) (w : Bench) : Type 0 where
   pub back : Delivered (sends b) (w .now) (w .back .came) (w .back .written)
   pub a-clean : NoFlag (w .pair .a)
   pub b-clean : NoFlag (w .pair .b)
+
+-- the stamp of the character that a side holds, the latest that came, is 1 plus the joined tick of its arrival, modulo 4,294,967,296: the set-up's own
+-- tick counts (request P4)
+abbrev pub firstTally : RxC
+firstTally = record { 0 = 1 }
+
+pub record StampedRight (w : Bench) : Type 0 where
+  pub there : Stamped firstTally (stamp (w .pair .b)) (w .there .came)
+  pub back : Stamped firstTally (stamp (w .pair .a)) (w .back .came)
 
 -- == what the bench sees ==
 

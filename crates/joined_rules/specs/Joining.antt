@@ -1,12 +1,15 @@
 -- Two devices joined: document 01, "Receiving, by receive ticks". A joined tick is both transmit ticks, then each receiver takes the other's level.
 -- Assumes nothing.
 use Prim.Native.Nat.{ℕ, zero, suc}
+use mathlib.Core.Path.{_≡_}
 use mathlib.Core.Bool.{cond}
 use lib.Dec.{ltb}
 use Rattle.line_rules.specs.Sending.{on}
+use Rattle.line_rules.specs.Clocks.{txLater, rxLater}
 use Rattle.ins2651_rules.specs.declared.Ticked.{Ticked}
 use Rattle.ins2651_rules.specs.Ranges.{settled}
 use Rattle.ins2651_rules.specs.Ticks.{transmitTick, transmit, receiveTick, receive}
+use Rattle.ins2651_rules.specs.Stamps.{transmitTally, receiveTally}
 use Rattle.joined_rules.specs.declared.Pair.{Pair}
 use Rattle.joined_rules.specs.declared.Joined.{Joined}
 use Rattle.joined_rules.specs.declared.Ran.{Ran}
@@ -35,6 +38,15 @@ runRefusal n = cond (ltb 65535 n) 16 0
 -- the call that does n at once: what as many single ones leave, or, refused, the pair as given
 unfoldable pub run : Pair → ℕ → Ran
 run p n = record { refusal = runRefusal n; pair = cond (ltb 65535 n) p (ticks n p) }
+
+-- == what ticks count: request P4 ==
+
+-- all four tallies are n ticks on, as the calls give them
+pub record TalliesMoved (n : ℕ) (p q : Pair) : Type 0 where
+  pub a-sent : transmitTally (q .a) ≡ txLater n (transmitTally (p .a))
+  pub a-heard : receiveTally (q .a) ≡ rxLater n (receiveTally (p .a))
+  pub b-sent : transmitTally (q .b) ≡ txLater n (transmitTally (p .b))
+  pub b-heard : receiveTally (q .b) ≡ rxLater n (receiveTally (p .b))
 
 -- == the same on a pair in range ==
 

@@ -8,7 +8,7 @@ use Rattle.way_rules.specs.declared.Way.{Way}
 use Rattle.way_rules.specs.Along.{wayTicks}
 use Rattle.way_rules.specs.Calm.{wayStands}
 use Rattle.ins2651_rules.specs.declared.Device.{Device}
-use Rattle.ins2651_rules.specs.Shape.{withParts, withErrors, withEmpty}
+use Rattle.ins2651_rules.specs.Shape.{withParts, deviceLater, withErrors, withEmpty}
 use Rattle.ins2651_rules.specs.Modes.{sendFormat, receiveFormat}
 use Rattle.ins2651_rules.specs.Conditions.{transmitEnabled, mayStart, breakOn, listening}
 use Rattle.ins2651_rules.specs.Ranges.{inRange}
@@ -50,7 +50,11 @@ unfoldable pub alongBoth : ℕ → Pair → Pair
 alongBoth n p =
     withWays p (wayTicks (endsOf (p .a) (p .b)) n (wayOf (p .a) (p .b))) (wayTicks (endsOf (p .b) (p .a)) n (wayOf (p .b) (p .a)))
 
--- no tick changes the pair: both devices are in range, and both ways stand
+-- the same pair with n ticks more in its four tallies
+abbrev pub pairLater : ℕ → Pair → Pair
+pairLater n p = record { a = deviceLater n (p .a); b = deviceLater n (p .b) }
+
+-- no tick changes more than the tallies: both devices are in range, and both ways stand
 unfoldable pub stands : Pair → Bool
 stands p =
     wayStands (endsOf (p .a) (p .b)) (wayOf (p .a) (p .b)) && wayStands (endsOf (p .b) (p .a)) (wayOf (p .b) (p .a))

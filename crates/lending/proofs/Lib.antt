@@ -8,3 +8,4 @@ pub mod Early
 pub mod Moves
 pub mod Again
 pub mod Spares
+pub mod Decides

@@ -5,6 +5,7 @@ ghost use Prim.Native.Nat.{suc, _*_, _-_, _^_, _/_, _%_, _≤_, _<_};
 ghost use lib.Dec.{eqb};
 ghost use Rattle.line_rules.specs.Sending;
 ghost use Rattle.line_rules.specs.Sending.{bit, parityBits, beforeStop, frameLength, stopSample, parityBit, bitAt, dataLevel, parityLevel, orSet};
+ghost use Rattle.line_rules.specs.Clocks.{txLater, rxLater};
 ghost use Rattle.line_rules.specs.Range.{isFactor, isStop, isLength, inRange};
 ghost use Rattle.line_rules.specs.Receiving;
 ghost use Rattle.line_rules.specs.Receiving.{atRest, afterMark, lookNext, withBit, startLook, parityLook, stopLook, lookAt};
@@ -12,7 +13,9 @@ use line_rules::Arrival;
 use line_rules::Format;
 use line_rules::Heard;
 use line_rules::Receiver;
+use line_rules::RxC;
 use line_rules::Sampled;
+use line_rules::TxC;
 
 mod parity;
 
@@ -41,11 +44,36 @@ pub fn or_set(t: bool, x: u8) -> u8
     if t { 1 } else { x }
 }
 
-// Whether a format is one of document 01.
+// == the tallies (P4) ==
+
+// A transmit tally k ticks later; it wraps.
+pub fn tx_later(t: TxC, k: u16) -> TxC
+    ensures { λ r. ⌜ r ≡ txLater k t ⌝ }
+{
+    TxC(std::num::wrapping_add_u32(t.0, k as u32))
+}
+
+// A receive tally k ticks later; it wraps.
+pub fn rx_later(t: RxC, k: u16) -> RxC
+    ensures { λ r. ⌜ r ≡ rxLater k t ⌝ }
+{
+    RxC(std::num::wrapping_add_u32(t.0, k as u32))
+}
+
+// == formats ==
+
+// Whether a format is one of document 01. By branches, here and in what asks this, which take less time than as many bools put together.
 pub fn in_range(f: Format) -> bool
     ensures { λ r. ⌜ r ≡ inRange f ⌝ }
 {
-    is_factor(f.factor) & is_length(f.length) & (f.parity <= 1) & (f.even <= 1) & is_stop(f)
+    if is_factor(f.factor) {
+        let bits = is_length(f.length) & (f.parity <= 1) & (f.even <= 1);
+        if bits {
+            return is_stop(f);
+        }
+        return false;
+    }
+    false
 }
 
 fn is_factor(x: u8) -> bool
@@ -315,9 +343,9 @@ fn parity_look(f: Format, m: u16, v: u8, x: bool) -> Sampled
     look_next(f, m, v, number(wrong))
 }
 
-// The stop: the character arrives. After a 0 the line must come back to 1 before the next search.
-fn stop_look(v: u8, w: u8, x: bool) -> Sampled
-    ensures { λ r. ⌜ r ≡ stopLook v w x ⌝ }
+// The stop: the character arrives, stamped with the receive tally now. After a 0 the line must come back to 1 before the next search.
+fn stop_look(v: u8, w: u8, x: bool, now: RxC) -> Sampled
+    ensures { λ r. ⌜ r ≡ stopLook v w x now ⌝ }
 {
     let next = after_mark(x);
     Sampled {
@@ -326,13 +354,14 @@ fn stop_look(v: u8, w: u8, x: bool) -> Sampled
             value: v,
             parity: 0 < w,
             framing: !x,
+            stamp: now,
         }),
     }
 }
 
 // Look number m: 0 at the start, then the data, the parity and the stop.
-fn look_at(f: Format, m: u16, v: u8, w: u8, x: bool) -> Sampled
-    ensures { λ r. ⌜ r ≡ lookAt f m v w x ⌝ }
+fn look_at(f: Format, m: u16, v: u8, w: u8, x: bool, now: RxC) -> Sampled
+    ensures { λ r. ⌜ r ≡ lookAt f m v w x now ⌝ }
 {
     if m == 0 {
         return start_look(f, x);
@@ -345,22 +374,22 @@ fn look_at(f: Format, m: u16, v: u8, w: u8, x: bool) -> Sampled
     if i < n + parity_bits(f) {
         return parity_look(f, m + 1, v, x);
     }
-    stop_look(v, w, x)
+    stop_look(v, w, x, now)
 }
 
 // A tick of a character under way: samples between looks are not looked at.
-fn under(f: Format, c: u8, m: u16, v: u8, w: u8, x: bool) -> Sampled
-    ensures { λ r. ⌜ r ≡ Receiving.under f c m v w x ⌝ }
+fn under(f: Format, c: u8, m: u16, v: u8, w: u8, x: bool, now: RxC) -> Sampled
+    ensures { λ r. ⌜ r ≡ Receiving.under f c m v w x now ⌝ }
 {
     if c == 0 {
-        return look_at(f, m, v, w, x);
+        return look_at(f, m, v, w, x, now);
     }
     quiet(assembling(c - 1, m, v, w))
 }
 
-// The receiver at one sample: what it leaves, and whether a character arrived with it.
-pub fn sample(f: Format, r: Receiver, x: bool) -> Sampled
-    ensures { λ s. ⌜ s ≡ Receiving.sample f r x ⌝ }
+// The receiver at one sample: what it leaves, and whether a character arrived with it. The receive tally counts this sample's tick.
+pub fn sample(f: Format, r: Receiver, x: bool, now: RxC) -> Sampled
+    ensures { λ s. ⌜ s ≡ Receiving.sample f r x now ⌝ }
 {
     if r.phase == 0 {
         return quiet(after_mark(x));
@@ -369,7 +398,7 @@ pub fn sample(f: Format, r: Receiver, x: bool) -> Sampled
         if x {
             return quiet(searching());
         }
-        return under(f, half(f), 0, 0, 0, false);
+        return under(f, half(f), 0, 0, 0, false, now);
     }
-    under(f, r.countdown, r.look, r.value, r.wrong, x)
+    under(f, r.countdown, r.look, r.value, r.wrong, x, now)
 }

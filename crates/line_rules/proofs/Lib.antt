@@ -2,6 +2,7 @@ pub mod Choice
 pub mod Table
 pub mod Bits
 pub mod Bytes
+pub mod Clocks
 pub mod Parts
 pub mod Branches
 pub mod Ranges
@@ -11,3 +12,4 @@ pub mod Received
 pub mod ReadBack
 pub mod Bench
 pub mod Flight
+pub mod Stamps

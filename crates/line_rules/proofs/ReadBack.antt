@@ -11,14 +11,17 @@ use lib.ListN.{length, getD, replicate, length-append, length-replicate}
 use lib.Seq.{drop-at}
 use lib.Pow.{pow-pos}
 use Rattle.line_rules.specs.declared.Format.{Format}
+use Rattle.line_rules.specs.declared.RxC.{RxC}
 use Rattle.line_rules.specs.Sending.{bit, on, differ, half, parityBits, frameLength, stopSample, cut, parityBit, bitAt, levelOf, level, listed, frame}
-use Rattle.line_rules.specs.Receiving.{searching, arrivals}
+use Rattle.line_rules.specs.Clocks.{rxLater}
+use Rattle.line_rules.specs.Receiving.{waiting, searching, sample, arrivals}
 use Rattle.line_rules.specs.Reading.{lev, find, seen, number, valueAt, arrivedAt, reading}
 use Rattle.line_rules.specs.Arrived.{Arrived, later, delivered}
 use Rattle.line_rules.specs.Sees.{Sees}
+use Rattle.line_rules.proofs.Clocks.{rx-later-later}
 use Rattle.line_rules.proofs.Parts.{part-data, part-parity, part-stop}
 use Rattle.line_rules.proofs.Frames.{in-bit, level-stop, length-listed, listed-append, listed-all, lev-listed, frame-levels}
-use Rattle.line_rules.proofs.Samples.{marks-pass, silent-before, arrivals-later, sample-waiting}
+use Rattle.line_rules.proofs.Samples.{marks-pass, silent-before, arrivals-later}
 use Rattle.line_rules.proofs.Received.{heard-at, received}
 
 -- == the number of a number's lowest bits is the number cut ==
@@ -87,26 +90,28 @@ module _ (f : Format) (c : ℕ) (g : ℕ → Bool) (pos : 0 < f .factor) (byte :
       ∙ at-look (suc (f .length + parityBits f)) (omega arith)
       ∙ part-stop f (f .length + parityBits f) _ _ _ (omega arith)
 
-  arrived-is : arrivedAt f ls 0 ≡ delivered f c (suc (0 + stopSample f))
-  arrived-is = rw (agrees (on (f .parity)) refl, value-is, stop-is)
+  arrived-is : (t : RxC) → arrivedAt f t ls 0 ≡ delivered f t c (suc (0 + stopSample f))
+  arrived-is t = rw (agrees (on (f .parity)) refl, value-is, stop-is)
 
   long-enough : 0 + stopSample f < length ls
   long-enough = rw (length-append, length-listed) (omega arith)
 
-  from-none : arrivals f searching 0 ls ≡ delivered f c (suc (stopSample f)) ∷ arrivals f searching (suc (stopSample f)) rest
-  from-none =
-      heard-at f ls pos 0 0 (ap (λ (i : ℕ). 0 + i) (finds-edge ls (sees .edge))) (at-look 0 (omega arith)) long-enough
-      ∙ rw (arrived-is, stop-is, zero-add (stopSample f), drop-at (listed g 0 (suc (stopSample f))) rest (suc (stopSample f)) (length-listed g 0 (suc (stopSample f))))
+  from-none : (t : RxC) → arrivals f t searching 0 ls ≡ delivered f t c (suc (stopSample f)) ∷ arrivals f t searching (suc (stopSample f)) rest
+  from-none t =
+      heard-at f t ls pos 0 0 (ap (λ (i : ℕ). 0 + i) (finds-edge ls (sees .edge))) (at-look 0 (omega arith)) long-enough
+      ∙ rw (arrived-is t, stop-is, zero-add (stopSample f), drop-at (listed g 0 (suc (stopSample f))) rest (suc (stopSample f)) (length-listed g 0 (suc (stopSample f))))
 
   -- the character arrives with sample 1 + D of these, and the search goes on
-  pub seen-arrives : (k : ℕ)
-      → arrivals f searching k (listed g 0 (suc (stopSample f)) ++ rest)
-      ≡ delivered f c (k + suc (stopSample f)) ∷ arrivals f searching (k + suc (stopSample f)) rest
-  seen-arrives k =
-      ap (λ (j : ℕ). arrivals f searching j ls) (sym (add-zero k))
-      ∙ arrivals-later f searching k 0 ls
-      ∙ ap (map (later k)) from-none
-      ∙ ap (λ (r : List Arrived). delivered f c (k + suc (stopSample f)) ∷ r) (sym (arrivals-later f searching k (suc (stopSample f)) rest))
+  pub seen-arrives : (t : RxC) (k : ℕ)
+      → arrivals f t searching k (listed g 0 (suc (stopSample f)) ++ rest)
+      ≡ delivered f t c (k + suc (stopSample f)) ∷ arrivals f t searching (k + suc (stopSample f)) rest
+  seen-arrives t k =
+      ap (λ (j : ℕ). arrivals f t searching j ls) (sym (add-zero k))
+      ∙ arrivals-later f t searching k 0 ls
+      ∙ ap (map (later k)) (from-none (rxLater k t))
+      ∙ ap (λ (u : RxC). record { at = k + suc (stopSample f); arrival = record { value = cut f c; parity = false; framing = false; stamp = u } }
+      ∷ map (later k) (arrivals f (rxLater k t) searching (suc (stopSample f)) rest)) (rx-later-later (suc (stopSample f)) k t)
+      ∙ ap (λ (r : List Arrived). delivered f t c (k + suc (stopSample f)) ∷ r) (sym (arrivals-later f t searching k (suc (stopSample f)) rest))
 
 -- == a frame after a mark ==
 
@@ -117,6 +122,10 @@ frame-seen f c pos =
       edge = ap (levelOf f c) (zero-div (f .factor));
       looks = λ m h. ap (levelOf f c) (in-bit (f .factor) (half f) m (omega arith));
     }
+
+mark-passes : (f : Format) (t : RxC) (ls : List Bool) → arrivals f t waiting 0 (true ∷ ls) ≡ arrivals f t searching 1 ls
+unfolding sample
+mark-passes f t ls = refl
 
 module _ (f : Format) (c : ℕ) (rest : List Bool) (pos : 0 < f .factor) (stops : half f < f .stop) (byte : c < 256) where
   -- the ticks of the stop after its sample
@@ -134,21 +143,21 @@ module _ (f : Format) (c : ℕ) (rest : List Bool) (pos : 0 < f .factor) (stops 
       ∙ append-assoc (listed (level f c) 0 (suc (stopSample f))) (replicate tail true) rest
 
   -- a search goes on through the marks
-  tail-passes : (k : ℕ) → arrivals f searching k (replicate tail true ++ rest) ≡ arrivals f searching (k + tail) rest
-  tail-passes k = silent-before f searching searching k (replicate tail true) rest (marks-pass f tail) ∙ rw length-replicate
+  tail-passes : (t : RxC) (k : ℕ) → arrivals f t searching k (replicate tail true ++ rest) ≡ arrivals f t searching (k + tail) rest
+  tail-passes t k = silent-before f t searching searching k (replicate tail true) rest (marks-pass f tail) ∙ rw length-replicate
 
-  after-mark : (ls : List Bool) → reading f (true ∷ ls) ≡ arrivals f searching 1 ls
-  after-mark ls = sym (received f (true ∷ ls) pos) ∙ rw sample-waiting
+  after-mark : (t : RxC) (ls : List Bool) → reading f t (true ∷ ls) ≡ arrivals f t searching 1 ls
+  after-mark t ls = sym (received f t (true ∷ ls) pos) ∙ mark-passes f t ls
 
   -- it is read with sample 2 + D, and what follows is read as after a mark, L later
-  pub frame-read : reading f (true ∷ frame f c ++ rest) ≡ delivered f c (2 + stopSample f) ∷ map (later (frameLength f)) (reading f (true ∷ rest))
-  frame-read =
-      after-mark (frame f c ++ rest)
-      ∙ ap (arrivals f searching 1) parts
-      ∙ seen-arrives f c (level f c) pos byte (frame-seen f c pos) (replicate tail true ++ rest) 1
-      ∙ ap₂ (λ (k : ℕ) (r : List Arrived). delivered f c k ∷ r)
+  pub frame-read : (t : RxC) → reading f t (true ∷ frame f c ++ rest) ≡ delivered f t c (2 + stopSample f) ∷ map (later (frameLength f)) (reading f (rxLater (frameLength f) t) (true ∷ rest))
+  frame-read t =
+      after-mark t (frame f c ++ rest)
+      ∙ ap (arrivals f t searching 1) parts
+      ∙ seen-arrives f c (level f c) pos byte (frame-seen f c pos) (replicate tail true ++ rest) t 1
+      ∙ ap₂ (λ (k : ℕ) (r : List Arrived). delivered f t c k ∷ r)
       (let e : 1 + suc (stopSample f) ≡ 2 + stopSample f = omega arith in e)
-      (tail-passes (1 + suc (stopSample f))
-      ∙ ap (λ (k : ℕ). arrivals f searching k rest) (let e : 1 + suc (stopSample f) + tail ≡ frameLength f + 1 = omega arith in e)
-      ∙ arrivals-later f searching (frameLength f) 1 rest
-      ∙ ap (map (later (frameLength f))) (sym (after-mark rest)))
+      (tail-passes t (1 + suc (stopSample f))
+      ∙ ap (λ (k : ℕ). arrivals f t searching k rest) (let e : 1 + suc (stopSample f) + tail ≡ frameLength f + 1 = omega arith in e)
+      ∙ arrivals-later f t searching (frameLength f) 1 rest
+      ∙ ap (map (later (frameLength f))) (sym (after-mark (rxLater (frameLength f) t) rest)))

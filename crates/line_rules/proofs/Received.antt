@@ -12,52 +12,58 @@ use lib.Seq.{drop-cons, drop-drop}
 use borrow.Author.Tests.{ltb-true, ltb-false}
 use Rattle.line_rules.specs.declared.Format.{Format}
 use Rattle.line_rules.specs.declared.Receiver.{Receiver}
+use Rattle.line_rules.specs.declared.RxC.{RxC}
 use Rattle.line_rules.specs.declared.Sampled.{Sampled}
 use Rattle.line_rules.specs.Sending.{bit, on, differ, half, parityBits, stopSample, parityBit}
+use Rattle.line_rules.specs.Clocks.{rxLater}
 use Rattle.line_rules.specs.Receiving.{waiting, searching, assembling, afterMark, quiet, lookAt, sample, tell, arrivals}
 use Rattle.line_rules.specs.Reading.{lev, find, first, seen, number, valueAt, wrongParityAt, arrivedAt, resume, startAt, gather, readFrom, reading}
 use Rattle.line_rules.specs.Arrived.{Arrived}
 use Rattle.line_rules.proofs.Bits.{on-bit}
 use Rattle.line_rules.proofs.Parts.{part-data, part-parity, part-stop}
-use Rattle.line_rules.proofs.Samples.{sample-under}
+use Rattle.line_rules.proofs.Samples.{leaves-alike, sample-under}
 
 -- what a sample brings, and what the rest brings from where it leaves the receiver
 abbrev told : ℕ → Sampled → (Receiver → List Arrived) → List Arrived
 told k o rest = tell k (o .heard) (rest (o .next))
 
 -- a search passes the 1s, and a wait passes the 0s and the 1 that ends it
-hunts : (f : Format) (xs : List Bool) (i : ℕ)
-    → arrivals f searching i xs ≡ arrivals f (assembling (half f) 0 0 0) (i + find false xs) (drop (find false xs) xs)
+hunts : (f : Format) (t : RxC) (xs : List Bool) (i : ℕ)
+    → arrivals f t searching i xs ≡ arrivals f t (assembling (half f) 0 0 0) (i + find false xs) (drop (find false xs) xs)
 unfolding sample
-hunts f [] i = refl
-hunts f (false ∷ xs) i = rw add-zero
-hunts f (true ∷ xs) i = hunts f xs (suc i) ∙ ap (λ (j : ℕ). arrivals f (assembling (half f) 0 0 0) j (drop (find false xs) xs)) (omega arith)
+hunts f t [] i = refl
+hunts f t (false ∷ xs) i = rw add-zero
+hunts f t (true ∷ xs) i = hunts f t xs (suc i) ∙ ap (λ (j : ℕ). arrivals f t (assembling (half f) 0 0 0) j (drop (find false xs) xs)) (omega arith)
 
-waits : (f : Format) (xs : List Bool) (i : ℕ)
-    → arrivals f waiting i xs ≡ arrivals f searching (suc (i + find true xs)) (drop (suc (find true xs)) xs)
+waits : (f : Format) (t : RxC) (xs : List Bool) (i : ℕ)
+    → arrivals f t waiting i xs ≡ arrivals f t searching (suc (i + find true xs)) (drop (suc (find true xs)) xs)
 unfolding sample
-waits f [] i = refl
-waits f (true ∷ xs) i = rw add-zero
-waits f (false ∷ xs) i = waits f xs (suc i) ∙ ap (λ (j : ℕ). arrivals f searching j (drop (suc (find true xs)) xs)) (omega arith)
+waits f t [] i = refl
+waits f t (true ∷ xs) i = rw add-zero
+waits f t (false ∷ xs) i = waits f t xs (suc i) ∙ ap (λ (j : ℕ). arrivals f t searching j (drop (suc (find true xs)) xs)) (omega arith)
 
-module _ (f : Format) (ls : List Bool) where
+module _ (f : Format) (t : RxC) (ls : List Bool) where
   -- what the levels from index i on bring
   abbrev R : Receiver → ℕ → List Arrived
-  R s i = arrivals f s i (drop i ls)
+  R s i = arrivals f t s i (drop i ls)
 
   past : (s : Receiver) (i : ℕ) → length ls ≤ i → R s i ≡ []
   past s i h = rw (drop-of-length-le ls h)
 
-  one : (s : Receiver) (i : ℕ) → i < length ls → R s i ≡ told (suc i) (sample f s (lev ls i)) (λ (t : Receiver). R t (suc i))
-  one s i h = rw (drop-cons ls i false h)
+  -- the tally at the sample of index i
+  abbrev now : ℕ → RxC
+  now i = rxLater (suc i) t
+
+  one : (s : Receiver) (i : ℕ) → i < length ls → R s i ≡ told (suc i) (sample f s (lev ls i) (now i)) (λ (r : Receiver). R r (suc i))
+  one s i h = rw (drop-cons ls i false h, leaves-alike f s (lev ls i) (now i))
 
   -- a sample that brings nothing
-  silent : (s t : Receiver) (i : ℕ) → sample f s (lev ls i) ≡ quiet t → R s i ≡ R t (suc i)
-  silent s t i e = go (ltb i (length ls)) refl
+  silent : (s q : Receiver) (i : ℕ) → sample f s (lev ls i) (now i) ≡ quiet q → R s i ≡ R q (suc i)
+  silent s q i e = go (ltb i (length ls)) refl
     where
-      go : (b : Bool) → ltb i (length ls) ≡ b → R s i ≡ R t (suc i)
-      go true h = one s i (ltb-true _ _ h) ∙ ap (λ (o : Sampled). told (suc i) o (λ (t : Receiver). R t (suc i))) e
-      go false h = past s i (ltb-false _ _ h) ∙ sym (past t (suc i) (omega (arith, ltb-false)))
+      go : (b : Bool) → ltb i (length ls) ≡ b → R s i ≡ R q (suc i)
+      go true h = one s i (ltb-true _ _ h) ∙ ap (λ (o : Sampled). told (suc i) o (λ (r : Receiver). R r (suc i))) e
+      go false h = past s i (ltb-false _ _ h) ∙ sym (past q (suc i) (omega (arith, ltb-false)))
 
   moved : (s : Receiver) (i j : ℕ) → i ≡ j → R s i ≡ R s j
   moved s i j e = ap (λ (k : ℕ). R s k) e
@@ -66,20 +72,20 @@ module _ (f : Format) (ls : List Bool) where
   skip : (c m v w : ℕ) (i j : ℕ) → i + c ≡ j → R (assembling c m v w) i ≡ R (assembling 0 m v w) j
   skip zero m v w i j e = moved (assembling 0 m v w) i j (omega arith)
   skip (suc c) m v w i j e =
-      silent (assembling (suc c) m v w) (assembling c m v w) i (sample-under f (suc c) m v w (lev ls i)) ∙ skip c m v w (suc i) j (omega arith)
+      silent (assembling (suc c) m v w) (assembling c m v w) i (sample-under f (suc c) m v w (lev ls i) (now i)) ∙ skip c m v w (suc i) j (omega arith)
 
   hunt-at : (i : ℕ) → R searching i ≡ R (assembling 0 0 0 0) (first false ls i + half f)
-  hunt-at i = hunts f (drop i ls) i ∙ rw drop-drop (skip (half f) 0 0 0 (first false ls i) (first false ls i + half f) refl)
+  hunt-at i = hunts f t (drop i ls) i ∙ rw drop-drop (skip (half f) 0 0 0 (first false ls i) (first false ls i + half f) refl)
 
   wait-at : (i : ℕ) → R waiting i ≡ R searching (suc (first true ls i))
-  wait-at i = waits f (drop i ls) i ∙ rw (drop-drop (suc (find true (drop i ls))) i ls, add-suc)
+  wait-at i = waits f t (drop i ls) i ∙ rw (drop-drop (suc (find true (drop i ls))) i ls, add-suc)
 
   module _ (pos : 0 < f .factor) where
     -- a look that only goes on to the next
-    looked : (m v w m′ v′ w′ : ℕ) (i j : ℕ) → lookAt f m v w (lev ls i) ≡ quiet (assembling (f .factor - 1) m′ v′ w′) → i + f .factor ≡ j
+    looked : (m v w m′ v′ w′ : ℕ) (i j : ℕ) → lookAt f m v w (lev ls i) (now i) ≡ quiet (assembling (f .factor - 1) m′ v′ w′) → i + f .factor ≡ j
         → R (assembling 0 m v w) i ≡ R (assembling 0 m′ v′ w′) j
     looked m v w m′ v′ w′ i j e q =
-        silent (assembling 0 m v w) (assembling (f .factor - 1) m′ v′ w′) i (sample-under f 0 m v w (lev ls i) ∙ e)
+        silent (assembling 0 m v w) (assembling (f .factor - 1) m′ v′ w′) i (sample-under f 0 m v w (lev ls i) (now i) ∙ e)
         ∙ skip (f .factor - 1) m′ v′ w′ (suc i) j (omega arith)
 
     module _ (k : ℕ) where
@@ -121,7 +127,7 @@ module _ (f : Format) (ls : List Bool) where
       -- the stop look
       stop : k + stopSample f < length ls
           → R (assembling 0 (suc (f .length + parityBits f)) (valueAt f ls k) wrong) (k + stopSample f)
-          ≡ arrivedAt f ls k ∷ R (afterMark (lev ls (k + stopSample f))) (suc (k + stopSample f))
+          ≡ arrivedAt f t ls k ∷ R (afterMark (lev ls (k + stopSample f))) (suc (k + stopSample f))
       stop h =
           let last : f .length + parityBits f ≤ f .length + parityBits f = omega arith in
           one _ _ h ∙ rw (sample-under, part-stop, on-bit)
@@ -137,23 +143,23 @@ module _ (f : Format) (ls : List Bool) where
 
     -- a search from index i that finds a whole character at k
     pub heard-at : (i k : ℕ) → first false ls i ≡ k → seen f ls k 0 ≡ false → k + stopSample f < length ls
-        → arrivals f searching i (drop i ls) ≡ arrivedAt f ls k ∷ arrivals f (afterMark (lev ls (k + stopSample f))) (suc (k + stopSample f)) (drop (suc (k + stopSample f)) ls)
+        → arrivals f t searching i (drop i ls) ≡ arrivedAt f t ls k ∷ arrivals f t (afterMark (lev ls (k + stopSample f))) (suc (k + stopSample f)) (drop (suc (k + stopSample f)) ls)
     heard-at i k e s h = hunt-at i ∙ moved (assembling 0 0 0 0) (first false ls i + half f) (k + half f) (omega arith) ∙ to-stop k s ∙ stop k h
 
-    module _ (starts : ℕ) (ih : (j : ℕ) → length ls ≤ j + starts → R searching j ≡ readFrom f ls starts j) where
-      resumed : (s : ℕ) (b : Bool) → lev ls s ≡ b → length ls ≤ suc s + starts → R (afterMark (lev ls s)) (suc s) ≡ readFrom f ls starts (resume ls s)
+    module _ (starts : ℕ) (ih : (j : ℕ) → length ls ≤ j + starts → R searching j ≡ readFrom f t ls starts j) where
+      resumed : (s : ℕ) (b : Bool) → lev ls s ≡ b → length ls ≤ suc s + starts → R (afterMark (lev ls s)) (suc s) ≡ readFrom f t ls starts (resume ls s)
       resumed s true e h = rw e (ih (suc s) h)
       resumed s false e h = rw e (wait-at (suc s) ∙ ih (suc (first true ls (suc s))) (omega arith))
 
-      start : (k : ℕ) → length ls ≤ suc k + starts → R (assembling 0 0 0 0) (k + half f) ≡ gather (startAt f ls k) (λ (j : ℕ). readFrom f ls starts j)
+      start : (k : ℕ) → length ls ≤ suc k + starts → R (assembling 0 0 0 0) (k + half f) ≡ gather (startAt f t ls k) (λ (j : ℕ). readFrom f t ls starts j)
       start k h = go (seen f ls k 0) (ltb (k + stopSample f) (length ls)) refl refl
         where
           go : (a b : Bool) → seen f ls k 0 ≡ a → ltb (k + stopSample f) (length ls) ≡ b
-              → R (assembling 0 0 0 0) (k + half f) ≡ gather (startAt f ls k) (λ (j : ℕ). readFrom f ls starts j)
+              → R (assembling 0 0 0 0) (k + half f) ≡ gather (startAt f t ls k) (λ (j : ℕ). readFrom f t ls starts j)
           go true b e₁ e₂ =
               rw e₁
               (moved (assembling 0 0 0 0) (k + half f) (place k 0) (omega arith)
-              ∙ silent (assembling 0 0 0 0) searching (place k 0) (sample-under f 0 0 0 0 (seen f ls k 0) ∙ rw e₁)
+              ∙ silent (assembling 0 0 0 0) searching (place k 0) (sample-under f 0 0 0 0 (seen f ls k 0) (now (place k 0)) ∙ rw e₁)
               ∙ moved searching (suc (place k 0)) (suc (k + half f)) (omega arith)
               ∙ ih (suc (k + half f)) (omega arith))
           go false false e₁ e₂ = rw (e₁, e₂) (to-stop k e₁ ∙ past _ _ (ltb-false _ _ e₂))
@@ -161,12 +167,12 @@ module _ (f : Format) (ls : List Bool) where
               rw (e₁, e₂)
               (to-stop k e₁
               ∙ stop k (ltb-true _ _ e₂)
-              ∙ ap (λ (r : List Arrived). arrivedAt f ls k ∷ r) (resumed (k + stopSample f) (lev ls (k + stopSample f)) refl (omega arith)))
+              ∙ ap (λ (r : List Arrived). arrivedAt f t ls k ∷ r) (resumed (k + stopSample f) (lev ls (k + stopSample f)) refl (omega arith)))
 
-    from-search : (starts i : ℕ) → length ls ≤ i + starts → R searching i ≡ readFrom f ls starts i
+    from-search : (starts i : ℕ) → length ls ≤ i + starts → R searching i ≡ readFrom f t ls starts i
     from-search zero i h = past searching i (omega arith)
     from-search (suc starts) i h = hunt-at i ∙ start starts (from-search starts) (first false ls i) (omega arith)
 
-    pub received : arrivals f waiting 0 ls ≡ reading f ls
+    pub received : arrivals f t waiting 0 ls ≡ reading f t ls
     unfolding reading
     received = wait-at 0 ∙ from-search (length ls) (suc (first true ls 0)) (omega arith)

@@ -4,7 +4,9 @@ use Prim.Native.Nat.{ℕ, _+_}
 use mathlib.Core.Bool.{false}
 use Rattle.line_rules.specs.declared.Format.{Format}
 use Rattle.line_rules.specs.declared.Arrival.{Arrival}
+use Rattle.line_rules.specs.declared.RxC.{RxC}
 use Rattle.line_rules.specs.Sending.{cut}
+use Rattle.line_rules.specs.Clocks.{rxLater}
 
 -- a character with the number of its stop sample; samples count from 1
 pub record Arrived : Type 0 where
@@ -15,6 +17,6 @@ pub record Arrived : Type 0 where
 abbrev pub later : ℕ → Arrived → Arrived
 later j a = record { at = j + a .at; arrival = a .arrival }
 
--- c has arrived with sample number k: cut to its length, with no flag
-abbrev pub delivered : Format → ℕ → ℕ → Arrived
-delivered f c k = record { at = k; arrival = record { value = cut f c; parity = false; framing = false } }
+-- c has arrived with sample number k, where the receive tally was t before the first: cut to its length, with no flag
+abbrev pub delivered : Format → RxC → ℕ → ℕ → Arrived
+delivered f t c k = record { at = k; arrival = record { value = cut f c; parity = false; framing = false; stamp = rxLater k t } }

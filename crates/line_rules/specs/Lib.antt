@@ -1,5 +1,6 @@
 pub mod Sending
 pub mod Range
+pub mod Clocks
 pub mod Arrived
 pub mod Receiving
 pub mod Reading

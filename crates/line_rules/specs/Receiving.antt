@@ -6,9 +6,11 @@ use mathlib.Core.List.{List, [], _∷_}
 use lib.Dec.{eqb}
 use Rattle.line_rules.specs.declared.Format.{Format}
 use Rattle.line_rules.specs.declared.Receiver.{Receiver}
+use Rattle.line_rules.specs.declared.RxC.{RxC}
 use Rattle.line_rules.specs.declared.Heard.{Heard}
 use Rattle.line_rules.specs.declared.Heard.the-variants.{Nothing, Character}
 use Rattle.line_rules.specs.declared.Sampled.{Sampled}
+use Rattle.line_rules.specs.Clocks.{rxLater, noRxC}
 use Rattle.line_rules.specs.Arrived.{Arrived}
 use Rattle.line_rules.specs.Sending.{bit, on, differ, half, parityBit, part}
 
@@ -55,27 +57,28 @@ startLook f x = cond x (quiet (afterMark true)) (lookNext f 1 0 0)
 abbrev pub parityLook : Format → (look value : ℕ) → Bool → Sampled
 parityLook f look value x = lookNext f look value (bit (differ x (parityBit f value)))
 
--- the stop: the character arrives; a stop of 0 is a framing fault, and a 1 must come before the next search
-abbrev pub stopLook : (value wrong : ℕ) → Bool → Sampled
-stopLook value wrong x = record { next = afterMark x; heard = Character (record { value = value; parity = on wrong; framing = not x }) }
+-- the stop: the character arrives, stamped with the receive tally now; a stop of 0 is a framing fault, and a 1 must come before the next search
+abbrev pub stopLook : (value wrong : ℕ) → Bool → RxC → Sampled
+stopLook value wrong x now =
+    record { next = afterMark x; heard = Character (record { value = value; parity = on wrong; framing = not x; stamp = now }) }
 
 -- a look sees x: look 0 the start, look i + 1 what follows it by its number i, which is data, parity or stop
-abbrev pub lookAt : Format → (look value wrong : ℕ) → Bool → Sampled
-lookAt f zero value wrong x = startLook f x
-lookAt f (suc i) value wrong x =
-    part f i (lookNext f (suc (suc i)) (withBit value i x) wrong) (parityLook f (suc (suc i)) value x) (stopLook value wrong x)
+abbrev pub lookAt : Format → (look value wrong : ℕ) → Bool → RxC → Sampled
+lookAt f zero value wrong x now = startLook f x
+lookAt f (suc i) value wrong x now =
+    part f i (lookNext f (suc (suc i)) (withBit value i x) wrong) (parityLook f (suc (suc i)) value x) (stopLook value wrong x now)
 
 -- a tick of a character under way: samples between looks are not looked at
-abbrev pub under : Format → (countdown look value wrong : ℕ) → Bool → Sampled
-under f zero look value wrong x = lookAt f look value wrong x
-under f (suc countdown) look value wrong x = quiet (assembling countdown look value wrong)
+abbrev pub under : Format → (countdown look value wrong : ℕ) → Bool → RxC → Sampled
+under f zero look value wrong x now = lookAt f look value wrong x now
+under f (suc countdown) look value wrong x now = quiet (assembling countdown look value wrong)
 
--- one sample x, by the receiver's phase: 0 waits, 1 searches, any other assembles
-unfoldable pub sample : Format → Receiver → Bool → Sampled
-sample f r x =
+-- one sample x, by the receiver's phase: 0 waits, 1 searches, any other assembles. The receive tally counts this sample's tick
+unfoldable pub sample : Format → Receiver → Bool → RxC → Sampled
+sample f r x now =
     cond (eqb (r .phase) 0)
     (quiet (afterMark x))
-    (cond (eqb (r .phase) 1) (cond x (quiet searching) (under f (half f) 0 0 0 false)) (under f (r .countdown) (r .look) (r .value) (r .wrong) x))
+    (cond (eqb (r .phase) 1) (cond x (quiet searching) (under f (half f) 0 0 0 false now)) (under f (r .countdown) (r .look) (r .value) (r .wrong) x now))
 
 -- == many samples ==
 
@@ -84,12 +87,16 @@ abbrev pub tell : ℕ → Heard → List Arrived → List Arrived
 tell k Nothing rest = rest
 tell k (Character a) rest = record { at = k; arrival = a } ∷ rest
 
--- what arrives of the samples that follow on k others
-abbrev pub arrivals : Format → Receiver → ℕ → List Bool → List Arrived
-arrivals f r k [] = []
-arrivals f r k (x ∷ xs) = tell (suc k) (sample f r x .heard) (arrivals f (sample f r x .next) (suc k) xs)
+-- what a sample leaves: the tally does not matter to it (proofs/Samples.antt, `leaves-alike`)
+abbrev pub leaves : Format → Receiver → Bool → Receiver
+leaves f r x = sample f r x noRxC .next
+
+-- what arrives of the samples that follow on k others, where the tally was t before them all
+abbrev pub arrivals : Format → RxC → Receiver → ℕ → List Bool → List Arrived
+arrivals f t r k [] = []
+arrivals f t r k (x ∷ xs) = tell (suc k) (sample f r x (rxLater (suc k) t) .heard) (arrivals f t (leaves f r x) (suc k) xs)
 
 -- the receiver after them
 abbrev pub after : Format → Receiver → List Bool → Receiver
 after f r [] = r
-after f r (x ∷ xs) = after f (sample f r x .next) xs
+after f r (x ∷ xs) = after f (leaves f r x) xs

@@ -23,11 +23,20 @@ pub struct Receiver {
     pub look: u16,
 }
 
-// A character as it arrives: whether its parity was wrong, and whether its stop sample was 0.
+// The tallies of request P4, by the sheet's names of the two clocks: ticks of the transmit clock since reset ..
+#[repr(C)]
+pub struct TxC(pub u32);
+
+// .. and ticks of the receive clock. Two types, so that one is never handed over as the other.
+#[repr(C)]
+pub struct RxC(pub u32);
+
+// A character as it arrives: whether its parity was wrong, whether its stop sample was 0, and the receive tally after that sample's tick.
 pub struct Arrival {
     pub value: u8,
     pub parity: bool,
     pub framing: bool,
+    pub stamp: RxC,
 }
 
 pub enum Heard {

@@ -5,7 +5,7 @@ ghost use mathlib.Core.Bool.{false};
 ghost use Prim.Native.Nat.{suc, _+_, _-_, _^_};
 ghost use lib.Dec.{ltb};
 ghost use Rattle.line_rules.specs.Sending.{parityBits};
-ghost use Rattle.link_rules.specs.Parts.{noFormat, noFrame, idleSender, loaded, unloaded, idleReceiver, dropped, emptied};
+ghost use Rattle.link_rules.specs.Parts.{noFormat, noFrame, idleSender, loaded, unloaded, senderLater, started, idleReceiver, dropped, emptied, receiverLater};
 ghost use Rattle.link_rules.specs.Transmitting;
 ghost use Rattle.link_rules.specs.Transmitting.{nextPlace, frameNext, frameTick, beginTick, idleTick, breakTick, markTick};
 ghost use Rattle.link_rules.specs.Hearing;
@@ -15,6 +15,8 @@ ghost use Rattle.link_rules.specs.Within;
 use line_rules::Format;
 use line_rules::Heard;
 use line_rules::Receiver;
+use line_rules::RxC;
+use line_rules::TxC;
 use link_rules::Frame;
 use link_rules::Received;
 use link_rules::ReceiverHalf;
@@ -54,6 +56,8 @@ pub fn idle_sender() -> SenderHalf
         holding: 0,
         full: 0,
         guard: 0,
+        start: TxC(0),
+        tally: TxC(0),
     }
 }
 
@@ -66,11 +70,23 @@ pub fn load(mut s: SenderHalf, v: u8) -> SenderHalf
     s
 }
 
-fn unload(mut s: SenderHalf) -> SenderHalf
-    ensures { λ r. ⌜ r ≡ unloaded s ⌝ }
+// Its tally k ticks on (P4).
+pub fn sender_later(mut s: SenderHalf, k: u16) -> SenderHalf
+    ensures { λ r. ⌜ r ≡ senderLater k s ⌝ }
 {
+    let tally = line::tx_later(s.tally, k);
+    s.tally = tally;
+    s
+}
+
+// The waiting character leaves, and its frame starts at the tick that the tally has just counted.
+fn unload(mut s: SenderHalf) -> SenderHalf
+    ensures { λ r. ⌜ r ≡ started (unloaded s) ⌝ }
+{
+    let now = s.tally;
     s.holding = 0;
     s.full = 0;
+    s.start = now;
     s
 }
 
@@ -171,9 +187,9 @@ fn mark_tick(s: SenderHalf) -> Sent
     idle_tick(s, true, fallen(s.guard))
 }
 
-// A transmit tick, told whether a frame or a break may start, whether break is on, and the format.
-pub fn transmit(s: SenderHalf, ready: bool, broken: bool, f: Format) -> Sent
-    ensures { λ r. ⌜ r ≡ Transmitting.transmit s ready broken f ⌝ }
+// What is sent at a tick that the tally has counted.
+fn sending(s: SenderHalf, ready: bool, broken: bool, f: Format) -> Sent
+    ensures { λ r. ⌜ r ≡ Transmitting.sending s ready broken f ⌝ }
 {
     let g = s.frame;
     if 0 < g.place {
@@ -191,6 +207,13 @@ pub fn transmit(s: SenderHalf, ready: bool, broken: bool, f: Format) -> Sent
     mark_tick(s)
 }
 
+// A transmit tick, told whether a frame or a break may start, whether break is on, and the format. Each one counts.
+pub fn transmit(s: SenderHalf, ready: bool, broken: bool, f: Format) -> Sent
+    ensures { λ r. ⌜ r ≡ Transmitting.transmit s ready broken f ⌝ }
+{
+    sending(sender_later(s, 1), ready, broken, f)
+}
+
 // == the receiver ==
 
 // What a read gives before anything has come.
@@ -205,6 +228,8 @@ pub fn idle_receiver() -> ReceiverHalf
         format: no_format(),
         holding: FIRST_HELD,
         unread: 0,
+        stamp: RxC(0),
+        tally: RxC(0),
     }
 }
 
@@ -262,11 +287,21 @@ fn step(mut r: ReceiverHalf, g: Format, s: Receiver) -> ReceiverHalf
     r
 }
 
-fn hold(mut r: ReceiverHalf, v: u8) -> ReceiverHalf
-    ensures { λ t. ⌜ t ≡ holds r v ⌝ }
+// Its tally k ticks on (P4).
+pub fn receiver_later(mut r: ReceiverHalf, k: u16) -> ReceiverHalf
+    ensures { λ t. ⌜ t ≡ receiverLater k r ⌝ }
+{
+    let tally = line::rx_later(r.tally, k);
+    r.tally = tally;
+    r
+}
+
+fn hold(mut r: ReceiverHalf, v: u8, stamp: RxC) -> ReceiverHalf
+    ensures { λ t. ⌜ t ≡ holds r v stamp ⌝ }
 {
     r.holding = v;
     r.unread = 1;
+    r.stamp = stamp;
     r
 }
 
@@ -281,7 +316,7 @@ fn brought(r: ReceiverHalf, heard: Heard) -> Received
             overrun: false,
         },
         Heard::Character(a) => Received {
-            half: hold(r, a.value),
+            half: hold(r, a.value, a.stamp),
             heard: Heard::Character(a),
             overrun: 0 < r.unread,
         },
@@ -292,15 +327,15 @@ fn hear(r: ReceiverHalf, g: Format, x: bool) -> Received
     ensures { λ t. ⌜ t ≡ Hearing.hear r g x ⌝ }
 {
     let state = r.state;
-    let o = line::sample(g, state, x);
+    let o = line::sample(g, state, x, r.tally);
     let next = o.next;
     let heard = o.heard;
     brought(step(r, g, next), heard)
 }
 
-// A receive tick, told whether receive is on, the format and the level.
-pub fn receive(r: ReceiverHalf, live: bool, f: Format, x: bool) -> Received
-    ensures { λ t. ⌜ t ≡ Hearing.receive r live f x ⌝ }
+// What is heard at a tick that the tally has counted.
+fn hearing(r: ReceiverHalf, live: bool, f: Format, x: bool) -> Received
+    ensures { λ t. ⌜ t ≡ Hearing.hearing r live f x ⌝ }
 {
     if live {
         return hear(r, character_format(r, f), x);
@@ -310,6 +345,13 @@ pub fn receive(r: ReceiverHalf, live: bool, f: Format, x: bool) -> Received
         heard: Heard::Nothing,
         overrun: false,
     }
+}
+
+// A receive tick, told whether receive is on, the format and the level. Each one counts.
+pub fn receive(r: ReceiverHalf, live: bool, f: Format, x: bool) -> Received
+    ensures { λ t. ⌜ t ≡ Hearing.receive r live f x ⌝ }
+{
+    hearing(receiver_later(r, 1), live, f, x)
 }
 
 // == the ranges ==
@@ -331,7 +373,10 @@ fn busy_in_range(g: Frame, guard: u8) -> bool
     ensures { λ r. ⌜ r ≡ busyInRange g guard ⌝ }
 {
     let f = g.format;
-    line::in_range(f) & ((g.place as u32) < line::frame_length(f)) & (guard == 0)
+    if line::in_range(f) {
+        return ((g.place as u32) < line::frame_length(f)) & (guard == 0);
+    }
+    false
 }
 
 fn free_in_range(g: Frame, guard: u8) -> bool
@@ -355,7 +400,10 @@ pub fn sender_in_range(s: SenderHalf) -> bool
     ensures { λ r. ⌜ r ≡ senderInRange s ⌝ }
 {
     let g = s.frame;
-    holding_in_range(s.full, s.holding) & frame_in_range(g, s.guard)
+    if holding_in_range(s.full, s.holding) {
+        return frame_in_range(g, s.guard);
+    }
+    false
 }
 
 // Whether a byte has k bits at most.
@@ -435,7 +483,10 @@ fn state_in_range(f: Format, s: Receiver) -> bool
     ensures { λ r. ⌜ r ≡ stateInRange f s ⌝ }
 {
     if under_way(s) {
-        return line::in_range(f) & assembly_in_range(f, s);
+        if line::in_range(f) {
+            return assembly_in_range(f, s);
+        }
+        return false;
     }
     is_no_format(f) & rest_in_range(s)
 }

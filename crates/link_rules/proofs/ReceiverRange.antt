@@ -10,6 +10,7 @@ use lib.Pow.{pow-pos}
 use borrow.Author.Tests.{ltb-true, ltb-false, leb-true, eqb-true, eqb-false, lt-ltb, le-leb, eq-eqb, ne-eqb}
 use Rattle.line_rules.specs.declared.Format.{Format}
 use Rattle.line_rules.specs.declared.Receiver.{Receiver}
+use Rattle.line_rules.specs.declared.RxC.{RxC}
 use Rattle.line_rules.specs.declared.Heard.{Heard}
 use Rattle.line_rules.specs.declared.Heard.the-variants.{Nothing, Character}
 use Rattle.line_rules.specs.declared.Sampled.{Sampled}
@@ -20,7 +21,7 @@ use Rattle.line_rules.proofs.Table.{both}
 use Rattle.line_rules.proofs.Ranges.{in-range-bounds}
 use Rattle.link_rules.specs.declared.ReceiverHalf.{ReceiverHalf}
 use Rattle.link_rules.specs.declared.Received.{Received}
-use Rattle.link_rules.specs.Parts.{noFormat, idleReceiver, dropped, emptied}
+use Rattle.link_rules.specs.Parts.{noFormat, idleReceiver, dropped, emptied, receiverLater}
 use Rattle.link_rules.specs.Hearing.{underWay, characterFormat, stepped, brought, hear, receive}
 use Rattle.link_rules.specs.Within.{countdownInRange, valueInRange, wrongInRange, assemblyInRange, stateInRange, receiverInRange}
 use Rattle.line_rules.proofs.Choice.{either, each, all}
@@ -116,28 +117,28 @@ module _ (g : Format) where
         next-look (suc i) v (bit (differ x (parityBit g v))) l (omega arith) h
         (rw (bit-on (on (g .parity)) (omega arith), eq-eqb _ _ q) (le-leb _ 1 (bit-most (differ x (parityBit g v)))))
 
-    look-in : (m v w : ℕ) (x : Bool) → Due g 0 m v w → Fine g (lookAt g m v w x)
+    look-in : (m v w : ℕ) (x : Bool) (t : RxC) → Due g 0 m v w → Fine g (lookAt g m v w x t)
     unfolding part
-    look-in zero v w true d = refl
-    look-in zero v w false d = next-look 0 0 0 (omega arith) (omega arith) (pow-pos (g .length)) (none-wrong 1)
-    look-in (suc i) v w x d =
+    look-in zero v w true now d = refl
+    look-in zero v w false now d = next-look 0 0 0 (omega arith) (omega arith) (pow-pos (g .length)) (none-wrong 1)
+    look-in (suc i) v w x now d =
         let t = rw (suc-less i) at (d .afterSample) in
         each (Fine g) (ltb i (g .length)) (λ a. data-look i v w x (ltb-true _ _ a) t (d .wrong))
         (λ a. each (Fine g) (ltb i (g .length + parityBits g))
         (λ b. parity-look i v x (ltb-false _ _ a) (ltb-true _ _ b) t (d .fits))
         (λ _. after-mark x))
 
-    under-in : (c m v w : ℕ) (x : Bool) → Due g c m v w → Fine g (under g c m v w x)
-    under-in zero m v w x d = look-in m v w x d
-    under-in (suc c) m v w x d = counted c m v w d
+    under-in : (c m v w : ℕ) (x : Bool) (t : RxC) → Due g c m v w → Fine g (under g c m v w x t)
+    under-in zero m v w x t d = look-in m v w x t d
+    under-in (suc c) m v w x t d = counted c m v w d
 
-    sample-in : (s : Receiver) (x : Bool) → (underWay s ≡ true → assemblyInRange g s ≡ true) → Fine g (sample g s x)
+    sample-in : (s : Receiver) (x : Bool) (t : RxC) → (underWay s ≡ true → assemblyInRange g s ≡ true) → Fine g (sample g s x t)
     unfolding sample
-    sample-in s x h =
+    sample-in s x t h =
         each (Fine g) (eqb (s .phase) 0) (λ _. after-mark x)
         (λ a. each (Fine g) (eqb (s .phase) 1)
-        (λ _. either (Fine g) x refl (under-in (half g) 0 0 0 false due-first))
-        (λ b. under-in (s .countdown) (s .look) (s .value) (s .wrong) x (due s (h (lt-ltb 1 (s .phase) (omega (arith, eqb-false)))))))
+        (λ _. either (Fine g) x refl (under-in (half g) 0 0 0 false t due-first))
+        (λ b. under-in (s .countdown) (s .look) (s .value) (s .wrong) x t (due s (h (lt-ltb 1 (s .phase) (omega (arith, eqb-false)))))))
 
 -- == the half ==
 
@@ -175,13 +176,13 @@ hear-in : (r : ReceiverHalf) (f : Format) (x : Bool) → receiverInRange r ≡ t
 unfolding receiverInRange
 hear-in r f x e ok =
     let g = characterFormat r f in
-    let o = sample g (r .state) x in
+    let o = sample g (r .state) x (r .tally) in
     let h = format-in r f (parts r e .1) ok in
-    brought-in (stepped r g (o .next)) (o .heard) (all (parts r e .0) (sample-in g (h .0) (r .state) x (h .1)))
+    brought-in (stepped r g (o .next)) (o .heard) (all (parts r e .0) (sample-in g (h .0) (r .state) x (r .tally) (h .1)))
 
 pub receive-in : (r : ReceiverHalf) (live : Bool) (f : Format) (x : Bool)
     → receiverInRange r ≡ true → (live ≡ true → inRange f ≡ true)
     → receiverInRange (receive r live f x .half) ≡ true
-unfolding receive
+unfolding receive receiverInRange
 receive-in r live f x e ok =
-    each (λ (o : Received). receiverInRange (o .half) ≡ true) live (λ l. hear-in r f x e (ok l)) (λ _. dropped-in r e)
+    each (λ (o : Received). receiverInRange (o .half) ≡ true) live (λ l. hear-in (receiverLater 1 r) f x e (ok l)) (λ _. dropped-in (receiverLater 1 r) e)

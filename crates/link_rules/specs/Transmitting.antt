@@ -8,7 +8,7 @@ use Rattle.line_rules.specs.Sending.{on, frameLength, level}
 use Rattle.link_rules.specs.declared.Frame.{Frame}
 use Rattle.link_rules.specs.declared.SenderHalf.{SenderHalf}
 use Rattle.link_rules.specs.declared.Sent.{Sent}
-use Rattle.link_rules.specs.Parts.{noFrame, withFrame, withGuard, unloaded}
+use Rattle.link_rules.specs.Parts.{noFrame, withFrame, withGuard, unloaded, senderLater, started}
 
 -- the place that follows in a frame of L ticks, in 16 bits; 0 after the last
 abbrev pub nextPlace : Format → ℕ → ℕ
@@ -31,9 +31,9 @@ frameTick s g began =
       drained = eqb (nextPlace (g .format) (g .place)) 0 && eqb (s .full) 0;
     }
 
--- the waiting character begins its frame, in the format f, with this tick as its first
+-- the waiting character begins its frame, in the format f, with this tick as its first: its start is the tally now (P4)
 abbrev pub beginTick : SenderHalf → Format → Sent
-beginTick s f = frameTick (unloaded s) (record { character = s .holding; format = f; place = 0 }) true
+beginTick s f = frameTick (started (unloaded s)) (record { character = s .holding; format = f; place = 0 }) true
 
 -- no frame is under way: a level, and the guard after it
 abbrev pub idleTick : SenderHalf → Bool → ℕ → Sent
@@ -47,12 +47,16 @@ breakTick s f = idleTick s false (f .factor)
 abbrev pub markTick : SenderHalf → Sent
 markTick s = idleTick s true (s .guard - 1)
 
--- the tick, told whether a frame or a break may start, whether break is on, and the format:
+-- what is sent at a tick that the tally has counted, told whether a frame or a break may start, whether break is on, and the format:
 -- the frame under way, break, guard, the full holding register, mark
-unfoldable pub transmit : SenderHalf → Bool → Bool → Format → Sent
-transmit s ready broken f =
+abbrev pub sending : SenderHalf → Bool → Bool → Format → Sent
+sending s ready broken f =
     cond (on (s .frame .place)) (frameTick s (s .frame) false)
     (cond (ready && broken) (breakTick s f)
     (cond (on (s .guard)) (markTick s)
     (cond (ready && on (s .full)) (beginTick s f)
     (markTick s))))
+
+-- the tick: the transmit tally goes up by one at each, whatever it sends (P4)
+unfoldable pub transmit : SenderHalf → Bool → Bool → Format → Sent
+transmit s ready broken f = sending (senderLater 1 s) ready broken f

@@ -4,6 +4,8 @@
 use line_rules::Format;
 use line_rules::Heard;
 use line_rules::Receiver;
+use line_rules::RxC;
+use line_rules::TxC;
 
 // A frame under way: its character, the format that it began with, and the place of its next tick. All 0: none.
 #[repr(C)]
@@ -13,22 +15,28 @@ pub struct Frame {
     pub place: u16,
 }
 
-// The sending half: the frame under way, the character that waits (where `full` is 1), and the guard that a break left.
+// The sending half: the frame under way, the character that waits (where `full` is 1), and the guard that a break left; the transmit tally after
+// the first tick of its last frame, and the tally itself (P4).
 #[repr(C)]
 pub struct SenderHalf {
     pub frame: Frame,
     pub holding: u8,
     pub full: u8,
     pub guard: u8,
+    pub start: TxC,
+    pub tally: TxC,
 }
 
-// The receiving half: the receiver, the format of the character under way, and the character last held, unread or not.
+// The receiving half: the receiver, the format of the character under way, and the character last held, unread or not, with its stamp, which is
+// the receive tally after its stop sample's tick; and the tally itself (P4).
 #[repr(C)]
 pub struct ReceiverHalf {
     pub state: Receiver,
     pub format: Format,
     pub holding: u8,
     pub unread: u8,
+    pub stamp: RxC,
+    pub tally: RxC,
 }
 
 // What a transmit tick leaves and sends; whether it was a frame's first; whether it ended a frame with nothing waiting.

@@ -1,7 +1,7 @@
 -- How C gets an answer as one number; and what the acts on a lent pair answer and leave, of which its calls are made.
 -- Assumes nothing.
 use Prim.Native.Nat.{ℕ, _+_, _*_, _/_, _%_}
-use mathlib.Core.Bool.{Bool, cond, _&&_, _||_}
+use mathlib.Core.Bool.{Bool, cond, not, _&&_, _||_}
 use lib.Dec.{leb, ltb, eqb}
 use Rattle.joined_rules.specs.declared.Pair.{Pair}
 use Rattle.joined_rules.specs.declared.Joined.{Joined}
@@ -25,9 +25,9 @@ tick p = record { answer = levelsSent (Joining.tick p); pair = Joining.tick p .p
 abbrev pub run : Pair → ℕ → PairReply
 run p n = record { answer = Joining.run p n .refusal; pair = Joining.run p n .pair }
 
--- a run is done and leaves the pair as it is
-abbrev pub spared : Pair → ℕ → Bool
-spared p n = leb n 65535 && stands p
+-- it is done, of a pair that stands: it only counts
+abbrev pub runCounts : Pair → ℕ → Bool
+runCounts p n = leb n 65535 && stands p
 
 -- == a wait ==
 
@@ -42,13 +42,17 @@ waitAnswer w = w .refusal * 65536 + w .count
 abbrev pub wait : Pair → ℕ → ℕ → WaitReply
 wait p u limit = record { answer = waitAnswer (Waiting.wait p (unitOf u) limit); pair = Waiting.wait p (unitOf u) limit .pair }
 
--- it leaves the pair as it is: it is refused, its limit is 0, a character is there, or the pair stands
-abbrev pub waitSpared : Pair → ℕ → ℕ → Bool
-waitSpared p u limit = ltb 65535 limit || eqb limit 0 || unread (unitOf u) p || stands p
+-- it is done, of a pair that stands, with no character there: it only counts, to its limit
+abbrev pub waitCounts : Pair → ℕ → ℕ → Bool
+waitCounts p u limit = leb limit 65535 && not (unread (unitOf u) p) && stands p
 
--- its answer then: refused with 21, 0 where a character is there, and else the limit, in which none comes
+-- it leaves the pair as it is: it is refused, its limit is 0, or a character is there
+abbrev pub waitSpared : Pair → ℕ → ℕ → Bool
+waitSpared p u limit = ltb 65535 limit || eqb limit 0 || unread (unitOf u) p
+
+-- its answer then: refused with 21, or no tick spent
 abbrev pub waitTold : Pair → ℕ → ℕ → ℕ
-waitTold p u limit = cond (ltb 65535 limit) (21 * 65536) (cond (unread (unitOf u) p) 0 limit)
+waitTold p u limit = cond (ltb 65535 limit) (21 * 65536) 0
 
 -- == as C takes the levels apart ==
 

@@ -1,6 +1,6 @@
 // A pair of joined devices lent to a C host: each call finds it, advances it in place and answers one number.
 // Whatever bytes the host lends, the call is what `joined_rules` says of them; a refused run or wait hands them back as they were. For
-// speed a run or a wait that would leave the pair as it is stores nothing.
+// speed a wait that leaves the pair as it is stores nothing, and a run or a wait of a pair that stands only counts.
 ghost use mathlib.Core.Path.{_≡_};
 ghost use denote.Ref.{now};
 ghost use Rattle.joined_rules.specs.Joining;
@@ -35,31 +35,29 @@ fn tick(p: Pair) -> PairReply
     }
 }
 
+// Whether a run is done and only counts.
+fn run_counts(p: Pair, n: u32) -> bool
+    ensures { λ r. ⌜ r ≡ Replies.runCounts p n ⌝ }
+{
+    (n <= 65535) & joined::stands(p)
+}
+
 fn run(p: Pair, n: u32) -> PairReply
     ensures { λ r. ⌜ r ≡ Replies.run p n ⌝ }
 {
+    let counts = run_counts(p, n);
+    if counts {
+        return PairReply {
+            answer: 0,
+            pair: joined::later(p, (n % 65536) as u16),
+        };
+    }
     let o = joined::run(p, n);
     let pair = o.pair;
     PairReply {
         answer: o.refusal as u16,
         pair: pair,
     }
-}
-
-// Whether a run is done and leaves the pair as it is.
-fn spared(p: Pair, n: u32) -> bool
-    ensures { λ r. ⌜ r ≡ Replies.spared p n ⌝ }
-{
-    (n <= 65535) & joined::stands(p)
-}
-
-fn run_in_place(p: &mut Pair, n: u32) -> u16
-    ensures { λ r. ⌜ (r ≡ Joining.run (now (p .entry)) n .refusal) × (now (p .exit) ≡ Joining.run (now (p .entry)) n .pair) ⌝ }
-{
-    let before = *p;
-    let reply = run(before, n);
-    *p = reply.pair;
-    reply.answer
 }
 
 // The unit that a number names from C.
@@ -72,9 +70,23 @@ fn unit_of(unit: u32) -> Unit
     Unit::B
 }
 
+// Whether a wait is done and only counts to its limit. That the pair stands takes longest to ask.
+fn wait_counts(p: Pair, unit: u32, limit: u32) -> bool
+    ensures { λ r. ⌜ r ≡ Replies.waitCounts p unit limit ⌝ }
+{
+    (limit <= 65535) & !joined::unread(p, unit_of(unit)) & joined::stands(p)
+}
+
 fn wait(p: Pair, unit: u32, limit: u32) -> WaitReply
     ensures { λ r. ⌜ r ≡ Replies.wait p unit limit ⌝ }
 {
+    let counts = wait_counts(p, unit, limit);
+    if counts {
+        return WaitReply {
+            answer: limit,
+            pair: joined::later(p, (limit % 65536) as u16),
+        };
+    }
     let w = joined::wait(p, unit_of(unit), limit);
     let pair = w.pair;
     WaitReply {
@@ -83,30 +95,18 @@ fn wait(p: Pair, unit: u32, limit: u32) -> WaitReply
     }
 }
 
-// Whether a wait leaves the pair as it is: it is refused or has nothing to wait for, or the pair stands. That is asked last, as it takes
-// longest.
+// Whether a wait leaves the pair as it is: it is refused, or has nothing to wait for.
 fn wait_spared(p: Pair, unit: u32, limit: u32) -> bool
     ensures { λ r. ⌜ r ≡ Replies.waitSpared p unit limit ⌝ }
 {
-    let none = (65535 < limit) | (limit == 0) | joined::unread(p, unit_of(unit));
-    if none {
-        return true;
-    }
-    joined::stands(p)
+    (65535 < limit) | (limit == 0) | joined::unread(p, unit_of(unit))
 }
 
 // What a wait that leaves the pair as it is answers.
 fn wait_told(p: Pair, unit: u32, limit: u32) -> u32
     ensures { λ r. ⌜ r ≡ Replies.waitTold p unit limit ⌝ }
 {
-    if 65535 < limit {
-        return 21 * 65536;
-    }
-    let there = joined::unread(p, unit_of(unit));
-    if there {
-        return 0;
-    }
-    limit
+    if 65535 < limit { 21 * 65536 } else { 0 }
 }
 
 fn wait_in_place(p: &mut Pair, unit: u32, limit: u32) -> u32
@@ -129,17 +129,15 @@ pub extern "C" fn ins2651_joined_tick(p: &mut Pair) -> u16
     reply.answer
 }
 
-// n joined ticks at once; answers its refusal. A pair that stands is not stored.
+// n joined ticks at once; answers its refusal.
 #[no_mangle]
 pub extern "C" fn ins2651_joined_run(p: &mut Pair, n: u32) -> u16
     ensures { λ r. ⌜ (r ≡ Joining.run (now (p .entry)) n .refusal) × (now (p .exit) ≡ Joining.run (now (p .entry)) n .pair) ⌝ }
 {
     let before = *p;
-    let still = spared(before, n);
-    if still {
-        return 0;
-    }
-    run_in_place(p, n)
+    let reply = run(before, n);
+    *p = reply.pair;
+    reply.answer
 }
 
 // Joined ticks until a unit holds an unread character, or the limit is used up; answers 65536 times its refusal plus their count. A pair

@@ -1,19 +1,19 @@
 -- Numbers as text: how long they are, that ten digits hold 32 bits, that they are numerals, and that none begins with a zero.
 -- Assumes nothing.
 use mathlib.Core.Path.{_≡_, refl, _∙_, ap}
-use mathlib.Core.List.{List, [], _∷_, _++_}
+use mathlib.Core.List.{List, [], _∷_, _++_, append-assoc}
 use mathlib.Core.Bool.{Bool, true, false, cond}
-use Prim.Native.Nat.{ℕ, zero, suc, _*_, _/_, _^_, _≤_, _<_}
+use Prim.Native.Nat.{ℕ, zero, suc, _+_, _*_, _/_, _^_, _≤_, _<_}
 use native.Mathlib.Omega.{arith}
-use native.Mathlib.Nat.{pow-suc}
+use native.Mathlib.Nat.{zero-add, suc-add, pow-suc, pow-le-pow-right}
 use borrow.Author.Tests.{lt-ltb, le-ltb, ltb-true, ltb-false}
 use lib.Dec.{ltb}
 use lib.ListN.{length, length-append, getD}
 use Rattle.line_rules.proofs.Choice.{each}
 use Rattle.fields.specs.Parted.{numeral}
 use Rattle.rows.specs.declared.Row.{Row}
-use Rattle.rows.specs.declared.Row.the-variants.{Nothing, Value, Waited, Refusal, Counts}
-use Rattle.rows.specs.Text.{glyph, digits, decimal, numbers, valueText, waitText, refusalText, countsText, rowText}
+use Rattle.rows.specs.declared.Row.the-variants.{Nothing, Value, Held, Waited, Refusal, Counts}
+use Rattle.rows.specs.Text.{glyph, two, four, digits, decimal, numbers, valueText, heldText, waitText, refusalText, countsText, rowText}
 
 more : (xs : List ℕ) (x : ℕ) → length (xs ++ x ∷ []) ≡ suc (length xs)
 more xs x = length-append xs (x ∷ []) ∙ omega arith
@@ -41,14 +41,20 @@ decimal-short n = digits-short 9 n
 pub field-short : (n : ℕ) → length (9 ∷ decimal n) ≤ 11
 field-short n = omega (arith, decimal-short n)
 
+-- of 0: a tab and one digit
+pub field-of-0 : length (9 ∷ decimal 0) ≤ 2
+unfolding decimal
+field-of-0 = omega arith
+
 numbers-short : (m n : ℕ) → length (numbers m n) ≤ 23
 numbers-short m n = simp length-append (omega (arith, decimal-short m, decimal-short n))
 
 -- no line is longer than the room that is asked for it
 pub row-short : (r : Row) → length (rowText r) ≤ 32
-unfolding rowText valueText waitText refusalText countsText
+unfolding rowText valueText heldText waitText refusalText countsText
 row-short Nothing = omega arith
 row-short (Value unit address v) = omega (arith, numbers-short address v)
+row-short (Held unit v t) = simp length-append (omega (arith, field-of-0, decimal-short v, decimal-short (t .0)))
 row-short (Waited unit count) = simp length-append (omega (arith, decimal-short count))
 row-short (Refusal line n) = omega (arith, numbers-short line n)
 row-short (Counts lines refusals) = omega (arith, numbers-short lines refusals)
@@ -69,6 +75,40 @@ module _ (n : ℕ) (h : n < 4294967296) (some : 10 ≤ n) where
   pub tenth-short : length (decimal (n / 10)) ≤ 9
   unfolding decimal
   tenth-short = rw tenth (digits-short 8 (n / 10))
+
+-- a number of at most k + 1 digits, where more are asked for
+digits-fit : (j k n : ℕ) → n < 10 ^ suc k → digits (j + k) n ≡ digits k n
+digits-fit zero k n h = rw zero-add refl
+digits-fit (suc j) k n h =
+    let p = pow-le-pow-right {n = 10} (omega arith) {i = suc k} {j = suc (j + k)} (omega arith) in
+    rw suc-add (digits-enough (j + k) n (omega (arith, p)) ∙ digits-fit j k n h)
+
+-- the room of a number below 100, and of one below 10000
+pub two-short : (n : ℕ) → n < 100 → length (decimal n) ≤ 2
+unfolding decimal
+two-short n h = rw (digits-fit 8 1 n h) (digits-short 1 n)
+
+pub four-short : (n : ℕ) → n < 10000 → length (decimal n) ≤ 4
+unfolding decimal
+four-short n h = rw (digits-fit 6 3 n h) (digits-short 3 n)
+
+-- several digits at a time
+pub decimal-two : (n : ℕ) → 10 ≤ n → n < 100 → decimal n ≡ two n
+decimal-two n some h = rw (decimal-more n (omega arith) some, decimal-one (n / 10) (omega arith)) refl
+
+pub decimal-two-more : (n : ℕ) → n < 4294967296 → 100 ≤ n → decimal n ≡ decimal (n / 100) ++ two n
+decimal-two-more n h some =
+    let e : n / 10 / 10 ≡ n / 100 = omega arith in
+    decimal-more n h (omega arith)
+    ∙ ap (λ (l : List ℕ). l ++ glyph n ∷ []) (decimal-more (n / 10) (omega arith) (omega arith) ∙ ap (λ (m : ℕ). decimal m ++ glyph (n / 10) ∷ []) e)
+    ∙ append-assoc (decimal (n / 100)) (glyph (n / 10) ∷ []) (glyph n ∷ [])
+
+pub decimal-four-more : (n : ℕ) → n < 4294967296 → 10000 ≤ n → decimal n ≡ decimal (n / 10000) ++ four n
+decimal-four-more n h some =
+    let e : n / 100 / 100 ≡ n / 10000 = omega arith in
+    decimal-two-more n h (omega arith)
+    ∙ ap (λ (l : List ℕ). l ++ two n) (decimal-two-more (n / 100) (omega arith) (omega arith) ∙ ap (λ (m : ℕ). decimal m ++ two (n / 100)) e)
+    ∙ append-assoc (decimal (n / 10000)) (two (n / 100)) (two n)
 
 -- == what the numbers are ==
 

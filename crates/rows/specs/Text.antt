@@ -1,4 +1,5 @@
--- The text of the output: document 01, "The session text", and request P12's wait. Fields are parted by one tab, and numbers are decimal without leading zeros.
+-- The text of the output: document 01, "The session text", request P4's read of address 0 and request P12's wait.
+-- Fields are parted by one tab, and numbers are decimal without leading zeros.
 -- Assumes nothing.
 use Prim.Native.Nat.{ℕ, zero, suc, _+_, _/_, _%_, _≤_}
 use Prim.Native.Char.{code}
@@ -8,14 +9,22 @@ use mathlib.Core.List.{List, [], _∷_, _++_}
 use lib.Dec.{ltb, leb}
 use lib.ListN.{length, take, drop}
 use lib.Seq.{sets}
+use Rattle.line_rules.specs.declared.RxC.{RxC}
 use Rattle.rows.specs.declared.Row.{Row}
-use Rattle.rows.specs.declared.Row.the-variants.{Nothing, Value, Waited, Refusal, Counts}
+use Rattle.rows.specs.declared.Row.the-variants.{Nothing, Value, Held, Waited, Refusal, Counts}
 
 -- == numbers ==
 
 -- the last digit
 abbrev pub glyph : ℕ → ℕ
 glyph n = code "0" + n % 10
+
+-- the last two, and the last four
+abbrev pub two : ℕ → List ℕ
+two n = glyph (n / 10) ∷ glyph n ∷ []
+
+abbrev pub four : ℕ → List ℕ
+four n = two (n / 100) ++ two n
 
 -- a number below 10 is its digit; any other is the text of its tenth, then its last digit. k more digits hold it
 abbrev pub digits : ℕ → ℕ → List ℕ
@@ -58,6 +67,10 @@ refusalText line n = row (letter (code "E") ∷ decimal line ∷ decimal n ∷ [
 unfoldable pub valueText : ℕ → ℕ → ℕ → List ℕ
 valueText unit address v = row (letter (code "R") ∷ letter unit ∷ decimal address ∷ decimal v ∷ [])
 
+-- R, unit, address 0, value, and the receive tally of its arrival: request P4
+unfoldable pub heldText : ℕ → ℕ → RxC → List ℕ
+heldText unit v t = row (letter (code "R") ∷ letter unit ∷ decimal 0 ∷ decimal v ∷ decimal (t .0) ∷ [])
+
 -- B, unit, count: request P12
 unfoldable pub waitText : ℕ → ℕ → List ℕ
 waitText unit count = row (letter (code "B") ∷ letter unit ∷ decimal count ∷ [])
@@ -66,10 +79,11 @@ waitText unit count = row (letter (code "B") ∷ letter unit ∷ decimal count �
 unfoldable pub countsText : ℕ → ℕ → List ℕ
 countsText lines refusals = row (letter (code "N") ∷ decimal lines ∷ decimal refusals ∷ [])
 
--- document 01's letter and values for each case, and request P12's
+-- document 01's letter and values for each case, and those of requests P4 and P12
 unfoldable pub rowText : Row → List ℕ
 rowText Nothing = []
 rowText (Value unit address v) = valueText unit address v
+rowText (Held unit v t) = heldText unit v t
 rowText (Waited unit count) = waitText unit count
 rowText (Refusal line n) = refusalText line n
 rowText (Counts lines refusals) = countsText lines refusals

@@ -38,10 +38,22 @@ fn byte(s: Session, n: u32) -> u8 {
     (below(s, n) % 256) as u8
 }
 
-fn mixed(s: Session, x: u8) -> Session {
+fn mixed_in(s: Session, x: u32) -> Session {
     let mut next = s;
     next.sum = ((s.sum as u64 * 31 + x as u64) % 4294967296) as u32;
     next
+}
+
+fn mixed(s: Session, x: u8) -> Session {
+    mixed_in(s, x as u32)
+}
+
+// The stamps of the held character and of the last frame (P4).
+fn stamped(s: Session) -> Session {
+    let d = s.device;
+    let held = ins2651::stamp(d);
+    let sent = ins2651::start(d);
+    mixed_in(mixed_in(s, held.0), sent.0)
 }
 
 // A call is counted, and its refusal.
@@ -59,7 +71,11 @@ fn read(s: Session, address: u8) -> Session {
     let d = s.device;
     let a = ins2651::read(d, address);
     let after = a.device;
-    mixed(mixed(called(s, after, a.refusal), a.refusal), a.value)
+    let next = mixed(mixed(called(s, after, a.refusal), a.refusal), a.value);
+    if address == 0 {
+        return stamped(next);
+    }
+    next
 }
 
 fn write(s: Session, address: u8, value: u8) -> Session {
@@ -259,6 +275,20 @@ fn begun(seed: u32) -> Session {
     }
 }
 
+// Both stamps and both tallies.
+fn clocks(d: Device) {
+    let held = ins2651::stamp(d);
+    let sent = ins2651::start(d);
+    let transmitted = ins2651::transmit_tally(d);
+    let received = ins2651::receive_tally(d);
+    text(b"T");
+    field(held.0);
+    field(sent.0);
+    field(transmitted.0);
+    field(received.0);
+    text(b"\n");
+}
+
 fn drawn_session(number: u32) {
     let seed = std::num::wrapping_add_u32(number, 1);
     let s = read(read(steps(begun(seed), 500), 1), 0);
@@ -268,6 +298,7 @@ fn drawn_session(number: u32) {
     field(s.refused);
     field(s.sum);
     text(b"\n");
+    clocks(s.device);
 }
 
 fn sessions(n: u32) {

@@ -7,11 +7,13 @@ use line_rules::Arrival;
 use line_rules::Format;
 use line_rules::Heard;
 use line_rules::Receiver;
+use line_rules::RxC;
 
-// A recording while it is read: the samples so far, the characters that came and a sum over them. `list` writes out each.
+// A recording while it is read: the samples so far, which are the receive tally, the characters that came and a sum over them. `list` writes
+// out each.
 struct Bench {
     receiver: Receiver,
-    samples: u32,
+    samples: RxC,
     characters: u32,
     sum: u32,
     list: bool,
@@ -21,7 +23,7 @@ struct Bench {
 fn fresh(list: bool, seed: u32) -> Bench {
     Bench {
         receiver: line::waiting(),
-        samples: 0,
+        samples: RxC(0),
         characters: 0,
         sum: 0,
         list: list,
@@ -73,11 +75,12 @@ fn came(b: Bench, a: Arrival) -> Bench {
     let mut next = b;
     let n = flags(a);
     let value = a.value;
+    let at = a.stamp;
     next.characters = std::num::wrapping_add_u32(b.characters, 1);
-    next.sum = mixed(mixed(mixed(b.sum, b.samples), value as u32), n as u32);
+    next.sum = mixed(mixed(mixed(b.sum, at.0), value as u32), n as u32);
     if b.list {
         text(b"C");
-        field(b.samples);
+        field(at.0);
         small(value);
         small(n);
         text(b"\n");
@@ -88,10 +91,11 @@ fn came(b: Bench, a: Arrival) -> Bench {
 fn take(f: Format, b: Bench, x: bool) -> Bench {
     let mut next = b;
     let r = b.receiver;
-    let s = line::sample(f, r, x);
+    let now = line::rx_later(b.samples, 1);
+    let s = line::sample(f, r, x, now);
     let after = s.next;
     next.receiver = after;
-    next.samples = std::num::wrapping_add_u32(b.samples, 1);
+    next.samples = now;
     let heard = s.heard;
     match heard {
         Heard::Nothing => next,
@@ -288,8 +292,25 @@ fn show(d: Device, address: u8) -> Device {
     field(address as u32);
     field(a.refusal as u32);
     field(a.value as u32);
+    if address == 0 {
+        let stamp = ins2651::stamp(d);
+        field(stamp.0);
+    }
     text(b"\n");
     a.device
+}
+
+// The start of the last frame, and both tallies.
+fn clocks(d: Device) -> Device {
+    let start = ins2651::start(d);
+    let transmitted = ins2651::transmit_tally(d);
+    let received = ins2651::receive_tally(d);
+    text(b"S");
+    field(start.0);
+    field(transmitted.0);
+    field(received.0);
+    text(b"\n");
+    d
 }
 
 fn written(d: Device, address: u8, value: u8) -> Device {
@@ -364,12 +385,42 @@ fn short_pulse() {
     show(show(after, 1), 0);
 }
 
+// A stamp stays with its character, read twice, emptied and while receive is off; a refused tick counts nothing.
+fn stamps() {
+    text(b"K\tstamps\n");
+    let first = hear_frame(hear(set_up_to_hear(77), 1, 1), 65);
+    let second = written(hear_frame(show(show(first, 0), 0), 66), 3, 0);
+    let third = hear_frame(hear(written(show(hear(second, 0, 5), 0), 3, 4), 1, 1), 67);
+    clocks(show(hear(third, 2, 1), 0));
+}
+
+fn send_ticks(d: Device, n: u32) -> Device {
+    let mut next = d;
+    for _ in 0..n {
+        let t = ins2651::transmit(next);
+        next = t.device;
+    }
+    next
+}
+
+// A frame's start stays to the next one's; a break begins none, and a reset drops it.
+fn starts() {
+    text(b"K\tstarts\n");
+    let broken = send_ticks(set_up(77, 0, 13), 3);
+    let waits = written(written(broken, 3, 5), 0, 65);
+    let sent = clocks(send_ticks(clocks(send_ticks(clocks(send_ticks(waits, 1)), 1)), 12));
+    clocks(send_ticks(written(sent, 0, 66), 1));
+    show(clocks(ins2651::reset()), 0);
+}
+
 fn chip_cases() {
     two_unread();
     addresses_3_and_4();
     zeros(32);
     zeros(33);
     short_pulse();
+    stamps();
+    starts();
 }
 
 // == two devices joined ==
@@ -400,12 +451,17 @@ fn b_shows(p: Pair, address: u8) -> Pair {
     next
 }
 
+fn ends_at(p: Pair) {
+    clocks(p.a);
+    clocks(p.b);
+}
+
 // Document 01's session: the character is not there after 152 ticks, and is there after 153.
 fn worked_session() {
     text(b"K\tsession\n");
     let fresh = fresh_pair(set_up(206, 126, 39), set_up(206, 126, 39));
     let early = b_shows(joined::run(a_writes(fresh, 0, 255), 152).pair, 1);
-    b_shows(b_shows(b_shows(joined::run(early, 1).pair, 1), 0), 1);
+    ends_at(b_shows(b_shows(b_shows(joined::run(early, 1).pair, 1), 0), 1));
 }
 
 // The fault code 255 sent with even parity (126) and received with odd (94); a good weight after it, with the mode mended.
@@ -419,7 +475,7 @@ fn fault_code() {
     );
     let weighed = a_writes(a_writes(bad, 2, 94), 0, 100);
     let good = b_shows(b_shows(b_shows(joined::run(weighed, 176).pair, 1), 0), 1);
-    b_shows(b_writes(good, 3, 21), 1);
+    ends_at(b_shows(b_writes(good, 3, 21), 1));
 }
 
 fn main() {

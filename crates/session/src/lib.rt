@@ -1,12 +1,14 @@
-// A session: document 01, "The session text", and request P12, over two joined devices. The input comes in pieces of any size: `begin`,
+// A session: document 01, "The session text", and requests P4 and P12, over two joined devices. The input comes in pieces of any size: `begin`,
 // `feed` for each piece, `finish`. Every call takes any number in any field, and none is refused: a refused line is
 // answered in the text.
 ghost use mathlib.Core.Path.{_≡_};
 ghost use Prim.Native.Nat.{_+_, _≤_, _<_};
 ghost use lib.ListN.{length, take};
 ghost use Rattle.rows.specs.Text.{Put, Spoke};
+ghost use Rattle.ins2651_rules.specs.RegisterWrites;
 ghost use Rattle.session_rules.specs.Calls;
 ghost use Rattle.session_rules.specs.Bytes;
+use ins2651_rules::Answer;
 use ins2651_rules::Device;
 use ins2651_rules::Outcome;
 use joined_rules::Pair;
@@ -71,6 +73,7 @@ fn number(said: Said) -> u8
     match said {
         Said::Nothing => 0,
         Said::Value(_, _, _) => 0,
+        Said::Held(_, _, _) => 0,
         Said::Waited(_, _) => 0,
         Said::Refusal(n) => n,
     }
@@ -101,16 +104,58 @@ fn answered(p: Pair, unit: u8, o: Outcome) -> Reply
     replied(p, unit, o.device, verdict(o.refusal, Said::Nothing))
 }
 
-fn read(p: Pair, unit: u8, address: u8) -> Reply
-    ensures { λ r. ⌜ r ≡ Calls.reading p unit address ⌝ }
+// A write, by a call for each unit, so that no device is copied to be chosen; and so in `read`.
+fn write(p: Pair, unit: u8, address: u8, v: u8) -> Reply
+    ensures { λ r. ⌜ r ≡ Calls.answered p unit (RegisterWrites.write (Calls.deviceOf p unit) address v) ⌝ }
 {
-    let a = ins2651::read(device_of(p, unit), address);
+    let mut next = p;
+    if unit == b'A' {
+        let x = ins2651::write(p.a, address, v);
+        let d = x.device;
+        next.a = d;
+        return Reply {
+            pair: next,
+            said: verdict(x.refusal, Said::Nothing),
+        };
+    }
+    let y = ins2651::write(p.b, address, v);
+    let d = y.device;
+    next.b = d;
+    Reply {
+        pair: next,
+        said: verdict(y.refusal, Said::Nothing),
+    }
+}
+
+// What a read that is done says: of address 0 the stamp too, which it leaves in the device (P4).
+fn shown_by(unit: u8, address: u8, a: Answer) -> Said
+    ensures { λ r. ⌜ r ≡ Calls.shownBy unit address a ⌝ }
+{
+    if address == 0 {
+        let stamp = a.device.receiver.stamp;
+        return Said::Held(unit, a.value, stamp);
+    }
+    Said::Value(unit, address, a.value)
+}
+
+fn shown(p: Pair, unit: u8, address: u8, a: Answer) -> Reply
+    ensures { λ r. ⌜ r ≡ Calls.replied p unit (a .device) (Calls.verdict (a .refusal) (Calls.shownBy unit address a)) ⌝ }
+{
     replied(
         p,
         unit,
         a.device,
-        verdict(a.refusal, Said::Value(unit, address, a.value)),
+        verdict(a.refusal, shown_by(unit, address, a)),
     )
+}
+
+fn read(p: Pair, unit: u8, address: u8) -> Reply
+    ensures { λ r. ⌜ r ≡ Calls.reading p unit address ⌝ }
+{
+    if unit == b'A' {
+        return shown(p, unit, address, ins2651::read(p.a, address));
+    }
+    shown(p, unit, address, ins2651::read(p.b, address))
 }
 
 // A line that is refused for itself.
@@ -152,9 +197,7 @@ fn obey(p: Pair, r: Record) -> Reply
     ensures { λ a. ⌜ a ≡ Calls.obey p r ⌝ }
 {
     match r {
-        Record::Write(unit, address, value) => {
-            answered(p, unit, ins2651::write(device_of(p, unit), address, value))
-        }
+        Record::Write(unit, address, value) => { write(p, unit, address, value) }
         Record::Read(unit, address) => read(p, unit, address),
         Record::Pins(unit, dsr, dcd, cts) => {
             answered(
@@ -179,6 +222,7 @@ fn row_of(line: u16, said: Said) -> Row
     match said {
         Said::Nothing => Row::Nothing,
         Said::Value(unit, address, v) => Row::Value(unit, address, v),
+        Said::Held(unit, v, stamp) => Row::Held(unit, v, stamp),
         Said::Waited(unit, count) => Row::Waited(unit, count),
         Said::Refusal(n) => Row::Refusal(line, n),
     }

@@ -17,6 +17,7 @@ use Rattle.ins2651_rules.specs.Refusals.{writeRefusal}
 use Rattle.ins2651_rules.specs.RegisterReads.{readRegister, read}
 use Rattle.ins2651_rules.specs.RegisterWrites.{writeRegister, write}
 use Rattle.ins2651_rules.specs.Pinning.{pinned, setPins}
+use Rattle.ins2651_rules.specs.Stamps.{stamp}
 use Rattle.ins2651_rules.specs.Ticks.{transmitTick, transmit, receiveTick, receive}
 use Rattle.ins2651_rules.specs.Runs as chip
 use Rattle.joined_rules.specs.Joining.{tick}
@@ -31,7 +32,7 @@ use Rattle.fields.specs.Parted.{fieldOf, fieldsOf}
 use Rattle.fields.specs.Ascii.{bytes}
 use Rattle.records.specs.Records.{two, three, four, five}
 use Rattle.session_rules.specs.Calls.{obey, lineReply, saidText}
-use Rattle.rows.specs.Text.{decimal, refusalText, valueText, countsText, rowText}
+use Rattle.rows.specs.Text.{decimal, refusalText, valueText, heldText, countsText, rowText}
 use Rattle.session_rules.specs.Whole.{linesOf, linesTaken, answerText}
 use Rattle.session_rules.specs.Delivered.{Parted, Meets, formatFrom, MeetsFrom, start, printed, Delivers}
 use Rattle.session_rules.proofs.Delivered.{one-way-text-delivers, text-delivers}
@@ -43,8 +44,8 @@ input =
     ++ bytes "W\tB\t2\t206\nW\tB\t2\t126\nW\tB\t3\t39\nP\tA\t0\t0\t0\nP\tB\t0\t0\t0\nL\t1\n"
     ++ bytes "W\tA\t0\t255\nL\t152\nR\tB\t1\nL\t1\nR\tB\t1\nR\tB\t0\nR\tB\t1\n"
 
-pub worked : answerText input ≡ bytes "R\tB\t1\t197\nR\tB\t1\t195\nR\tB\t0\t255\nR\tB\t1\t193\nN\t16\t0\n"
-unfolding answerText linesTaken linesOf two three four five obey lineReply decimal refusalText valueText countsText rowText saidText fieldOf fieldsOf part oddOnes parityBit sample link-transmitting.transmit link-hearing.receive line-range.inRange senderInRange receiverInRange formatOf statusByte inRange settled writeRefusal readRegister read writeRegister write pinned setPins transmitTick transmit receiveTick receive tick
+pub worked : answerText input ≡ bytes "R\tB\t1\t197\nR\tB\t1\t195\nR\tB\t0\t255\t154\nR\tB\t1\t193\nN\t16\t0\n"
+unfolding answerText linesTaken linesOf two three four five obey lineReply decimal refusalText valueText heldText countsText rowText saidText fieldOf fieldsOf part oddOnes parityBit sample link-transmitting.transmit link-hearing.receive line-range.inRange senderInRange receiverInRange formatOf statusByte inRange settled writeRefusal readRegister read writeRegister write pinned setPins transmitTick transmit receiveTick receive stamp tick
 worked = refl
 
 -- its lines set both units up, eight of them, tick once, and go on as demand 3 allows ..
@@ -54,7 +55,7 @@ setting-up =
     ∷ At A (chip.SetPins 0 0 0) ∷ At B (chip.SetPins 0 0 0) ∷ []
 
 pub worked-meets : Meets bench.worked bench.worked (linesTaken input)
-unfolding answerText linesTaken linesOf two three four five obey lineReply decimal refusalText valueText countsText rowText saidText fieldOf fieldsOf part oddOnes parityBit sample link-transmitting.transmit link-hearing.receive line-range.inRange senderInRange receiverInRange formatOf statusByte inRange settled writeRefusal readRegister read writeRegister write pinned setPins transmitTick transmit receiveTick receive tick
+unfolding answerText linesTaken linesOf two three four five obey lineReply decimal refusalText valueText heldText countsText rowText saidText fieldOf fieldsOf part oddOnes parityBit sample link-transmitting.transmit link-hearing.receive line-range.inRange senderInRange receiverInRange formatOf statusByte inRange settled writeRefusal readRegister read writeRegister write pinned setPins transmitTick transmit receiveTick receive stamp tick
 worked-meets =
     record {
       parted = record { set-up = setting-up; after = bench.session; steps = refl; quiet = record { calls = refl; a-quiet = refl; b-quiet = refl } };
@@ -67,8 +68,8 @@ worked-meets =
 pub worked-delivers : Delivers A (sends bench.worked) (worked-meets .parted)
 worked-delivers = text-delivers bench.worked bench.worked bench.worked-proper bench.worked-proper bench.worked-agrees (linesTaken input) worked-meets A
 
-pub worked-prints : printed A (linesTaken input) ≡ bytes "R\tB\t0\t255\n" ∷ []
-unfolding answerText linesTaken linesOf two three four five obey lineReply decimal refusalText valueText countsText rowText saidText fieldOf fieldsOf part oddOnes parityBit sample link-transmitting.transmit link-hearing.receive line-range.inRange senderInRange receiverInRange formatOf statusByte inRange settled writeRefusal readRegister read writeRegister write pinned setPins transmitTick transmit receiveTick receive tick
+pub worked-prints : printed A (linesTaken input) ≡ bytes "R\tB\t0\t255\t154\n" ∷ []
+unfolding answerText linesTaken linesOf two three four five obey lineReply decimal refusalText valueText heldText countsText rowText saidText fieldOf fieldsOf part oddOnes parityBit sample link-transmitting.transmit link-hearing.receive line-range.inRange senderInRange receiverInRange formatOf statusByte inRange settled writeRefusal readRegister read writeRegister write pinned setPins transmitTick transmit receiveTick receive stamp tick
 worked-prints = refl
 
 -- == another session, both ways at once ==
@@ -85,7 +86,7 @@ abbrev pub mixed-lines : List (List ℕ)
 mixed-lines = linesTaken mixed-input
 
 abbrev pub mixed-parted : Parted mixed-lines
-unfolding answerText linesTaken linesOf two three four five obey lineReply decimal refusalText valueText countsText rowText saidText fieldOf fieldsOf part oddOnes parityBit sample link-transmitting.transmit link-hearing.receive line-range.inRange senderInRange receiverInRange formatOf statusByte inRange settled writeRefusal readRegister read writeRegister write pinned setPins transmitTick transmit receiveTick receive tick
+unfolding answerText linesTaken linesOf two three four five obey lineReply decimal refusalText valueText heldText countsText rowText saidText fieldOf fieldsOf part oddOnes parityBit sample link-transmitting.transmit link-hearing.receive line-range.inRange senderInRange receiverInRange formatOf statusByte inRange settled writeRefusal readRegister read writeRegister write pinned setPins transmitTick transmit receiveTick receive stamp tick
 mixed-parted =
     record {
       set-up = At A chip.Reset ∷ At B (chip.SetPins 0 0 0) ∷ At A (chip.Write 2 125) ∷ At B (chip.Write 3 1) ∷ At A (chip.Read 9) ∷ At A (chip.Write 2 0)
@@ -100,7 +101,7 @@ twenty-four : 24 ≤ 25
 twenty-four = omega arith
 
 pub mixed-meets : Meets bench.one-stop bench.two-stops mixed-lines
-unfolding answerText linesTaken linesOf two three four five obey lineReply decimal refusalText valueText countsText rowText saidText fieldOf fieldsOf part oddOnes parityBit sample link-transmitting.transmit link-hearing.receive line-range.inRange senderInRange receiverInRange formatOf statusByte inRange settled writeRefusal readRegister read writeRegister write pinned setPins transmitTick transmit receiveTick receive tick
+unfolding answerText linesTaken linesOf two three four five obey lineReply decimal refusalText valueText heldText countsText rowText saidText fieldOf fieldsOf part oddOnes parityBit sample link-transmitting.transmit link-hearing.receive line-range.inRange senderInRange receiverInRange formatOf statusByte inRange settled writeRefusal readRegister read writeRegister write pinned setPins transmitTick transmit receiveTick receive stamp tick
 mixed-meets =
     record {
       parted = mixed-parted;
@@ -114,17 +115,17 @@ mixed-delivers = text-delivers bench.one-stop bench.two-stops bench.one-stop-pro
 
 -- L+D joined ticks pass behind the last write each way, and all is read: so all that was written is printed
 pub mixed-finished : (s : Side) → Finished (wayFrom s) (sends (settingsAt bench.one-stop bench.two-stops s)) (one-way.runs (wayFrom s) (noLog (start (mixed-meets .parted))) (mixed-meets .parted .after))
-unfolding mixed-parted mixed-meets answerText linesTaken linesOf two three four five obey lineReply decimal refusalText valueText countsText rowText saidText fieldOf fieldsOf part oddOnes parityBit sample link-transmitting.transmit link-hearing.receive line-range.inRange senderInRange receiverInRange formatOf statusByte inRange settled writeRefusal readRegister read writeRegister write pinned setPins transmitTick transmit receiveTick receive tick
+unfolding mixed-parted mixed-meets answerText linesTaken linesOf two three four five obey lineReply decimal refusalText valueText heldText countsText rowText saidText fieldOf fieldsOf part oddOnes parityBit sample link-transmitting.transmit link-hearing.receive line-range.inRange senderInRange receiverInRange formatOf statusByte inRange settled writeRefusal readRegister read writeRegister write pinned setPins transmitTick transmit receiveTick receive stamp tick
 mixed-finished A = record { passed = twenty-four; read = refl }
 mixed-finished B = record { passed = twenty-four; read = refl }
 
 pub mixed-answer : answerText mixed-input
-    ≡ bytes "E\t5\t1\nE\t7\t6\nR\tA\t0\t0\nR\tB\t0\t193\nR\tA\t0\t90\nR\tA\t0\t90\nR\tB\t0\t194\nN\t24\t2\n"
-unfolding answerText linesTaken linesOf two three four five obey lineReply decimal refusalText valueText countsText rowText saidText fieldOf fieldsOf part oddOnes parityBit sample link-transmitting.transmit link-hearing.receive line-range.inRange senderInRange receiverInRange formatOf statusByte inRange settled writeRefusal readRegister read writeRegister write pinned setPins transmitTick transmit receiveTick receive tick
+    ≡ bytes "E\t5\t1\nE\t7\t6\nR\tA\t0\t0\t0\nR\tB\t0\t193\t14\nR\tA\t0\t90\t14\nR\tA\t0\t90\t14\nR\tB\t0\t194\t25\nN\t24\t2\n"
+unfolding answerText linesTaken linesOf two three four five obey lineReply decimal refusalText valueText heldText countsText rowText saidText fieldOf fieldsOf part oddOnes parityBit sample link-transmitting.transmit link-hearing.receive line-range.inRange senderInRange receiverInRange formatOf statusByte inRange settled writeRefusal readRegister read writeRegister write pinned setPins transmitTick transmit receiveTick receive stamp tick
 mixed-answer = refl
 
-pub mixed-prints : (printed A mixed-lines ≡ bytes "R\tB\t0\t193\n" ∷ bytes "R\tB\t0\t194\n" ∷ []) × (printed B mixed-lines ≡ bytes "R\tA\t0\t90\n" ∷ [])
-unfolding answerText linesTaken linesOf two three four five obey lineReply decimal refusalText valueText countsText rowText saidText fieldOf fieldsOf part oddOnes parityBit sample link-transmitting.transmit link-hearing.receive line-range.inRange senderInRange receiverInRange formatOf statusByte inRange settled writeRefusal readRegister read writeRegister write pinned setPins transmitTick transmit receiveTick receive tick
+pub mixed-prints : (printed A mixed-lines ≡ bytes "R\tB\t0\t193\t14\n" ∷ bytes "R\tB\t0\t194\t25\n" ∷ []) × (printed B mixed-lines ≡ bytes "R\tA\t0\t90\t14\n" ∷ [])
+unfolding answerText linesTaken linesOf two three four five obey lineReply decimal refusalText valueText heldText countsText rowText saidText fieldOf fieldsOf part oddOnes parityBit sample link-transmitting.transmit link-hearing.receive line-range.inRange senderInRange receiverInRange formatOf statusByte inRange settled writeRefusal readRegister read writeRegister write pinned setPins transmitTick transmit receiveTick receive stamp tick
 mixed-prints = (refl, refl)
 
 -- == one way, whatever happens on the other ==
@@ -139,12 +140,12 @@ abbrev pub one-sided-lines : List (List ℕ)
 one-sided-lines = linesTaken one-sided-input
 
 pub one-sided-answer : answerText one-sided-input
-    ≡ bytes "R\tB\t0\t193\nR\tA\t1\t215\nR\tA\t0\t91\nR\tB\t0\t194\nN\t21\t0\n"
-unfolding answerText linesTaken linesOf two three four five obey lineReply decimal refusalText valueText countsText rowText saidText fieldOf fieldsOf part oddOnes parityBit sample link-transmitting.transmit link-hearing.receive line-range.inRange senderInRange receiverInRange formatOf statusByte inRange settled writeRefusal readRegister read writeRegister write pinned setPins transmitTick transmit receiveTick receive tick
+    ≡ bytes "R\tB\t0\t193\t12\nR\tA\t1\t215\nR\tA\t0\t91\t24\nR\tB\t0\t194\t36\nN\t21\t0\n"
+unfolding answerText linesTaken linesOf two three four five obey lineReply decimal refusalText valueText heldText countsText rowText saidText fieldOf fieldsOf part oddOnes parityBit sample link-transmitting.transmit link-hearing.receive line-range.inRange senderInRange receiverInRange formatOf statusByte inRange settled writeRefusal readRegister read writeRegister write pinned setPins transmitTick transmit receiveTick receive stamp tick
 one-sided-answer = refl
 
 pub one-sided-meets : MeetsFrom A one-sided-lines
-unfolding answerText linesTaken linesOf two three four five obey lineReply decimal refusalText valueText countsText rowText saidText fieldOf fieldsOf part oddOnes parityBit sample link-transmitting.transmit link-hearing.receive line-range.inRange senderInRange receiverInRange formatOf statusByte inRange settled writeRefusal readRegister read writeRegister write pinned setPins transmitTick transmit receiveTick receive tick
+unfolding answerText linesTaken linesOf two three four five obey lineReply decimal refusalText valueText heldText countsText rowText saidText fieldOf fieldsOf part oddOnes parityBit sample link-transmitting.transmit link-hearing.receive line-range.inRange senderInRange receiverInRange formatOf statusByte inRange settled writeRefusal readRegister read writeRegister write pinned setPins transmitTick transmit receiveTick receive stamp tick
 one-sided-meets =
     record {
       parted = record {
@@ -162,20 +163,20 @@ one-sided-meets =
 pub one-sided-delivers : Delivers A (formatFrom A (one-sided-meets .parted)) (one-sided-meets .parted)
 one-sided-delivers = one-way-text-delivers A one-sided-lines one-sided-meets
 
-pub one-sided-prints : printed A one-sided-lines ≡ bytes "R\tB\t0\t193\n" ∷ bytes "R\tB\t0\t194\n" ∷ []
-unfolding answerText linesTaken linesOf two three four five obey lineReply decimal refusalText valueText countsText rowText saidText fieldOf fieldsOf part oddOnes parityBit sample link-transmitting.transmit link-hearing.receive line-range.inRange senderInRange receiverInRange formatOf statusByte inRange settled writeRefusal readRegister read writeRegister write pinned setPins transmitTick transmit receiveTick receive tick
+pub one-sided-prints : printed A one-sided-lines ≡ bytes "R\tB\t0\t193\t12\n" ∷ bytes "R\tB\t0\t194\t36\n" ∷ []
+unfolding answerText linesTaken linesOf two three four five obey lineReply decimal refusalText valueText heldText countsText rowText saidText fieldOf fieldsOf part oddOnes parityBit sample link-transmitting.transmit link-hearing.receive line-range.inRange senderInRange receiverInRange formatOf statusByte inRange settled writeRefusal readRegister read writeRegister write pinned setPins transmitTick transmit receiveTick receive stamp tick
 one-sided-prints = refl
 
 -- == edges ==
 
 -- an empty input gives N 0 0
 pub empty : answerText [] ≡ bytes "N\t0\t0\n"
-unfolding answerText linesTaken linesOf two three four five obey lineReply decimal refusalText valueText countsText rowText saidText fieldOf fieldsOf
+unfolding answerText linesTaken linesOf two three four five obey lineReply decimal refusalText valueText heldText countsText rowText saidText fieldOf fieldsOf
 empty = refl
 
 -- the device's own numbers in their order, then a value above 255; what was refused changed nothing
 pub refusals : answerText (bytes "R\tA\t4\nP\tB\t0\t2\t0\nW\tA\t2\t14\nW\tA\t2\t204\nW\tB\t3\t64\nW\tA\t256\t0\nW\tA\t3\t39\nR\tA\t3\n") ≡ bytes "E\t1\t1\nE\t2\t2\nE\t3\t3\nE\t4\t4\nE\t5\t5\nE\t6\t6\nR\tA\t3\t39\nN\t8\t6\n"
-unfolding answerText linesTaken linesOf two three four five obey lineReply decimal refusalText valueText countsText rowText saidText fieldOf fieldsOf part oddOnes parityBit sample link-transmitting.transmit link-hearing.receive line-range.inRange senderInRange receiverInRange formatOf statusByte inRange settled writeRefusal readRegister read writeRegister write pinned setPins transmitTick transmit receiveTick receive tick
+unfolding answerText linesTaken linesOf two three four five obey lineReply decimal refusalText valueText heldText countsText rowText saidText fieldOf fieldsOf part oddOnes parityBit sample link-transmitting.transmit link-hearing.receive line-range.inRange senderInRange receiverInRange formatOf statusByte inRange settled writeRefusal readRegister read writeRegister write pinned setPins transmitTick transmit receiveTick receive stamp tick
 refusals = refl
 
 -- five digits and six, a lower case letter, a unit that is none, an empty line, a carriage return, a value above 255, a tab too many
@@ -190,7 +191,7 @@ long =
     ++ bytes "R\tB\t3"
 
 pub shapes : answerText (mended ++ long) ≡ bytes "R\tA\t3\t0\nE\t2\t6\nE\t3\t6\nE\t4\t6\nE\t5\t6\nE\t6\t6\nE\t7\t6\nE\t8\t6\nE\t9\t6\nE\t10\t7\nR\tB\t3\t0\nN\t11\t9\n"
-unfolding answerText linesTaken linesOf two three four five obey lineReply decimal refusalText valueText countsText rowText saidText fieldOf fieldsOf part oddOnes parityBit sample link-transmitting.transmit link-hearing.receive line-range.inRange senderInRange receiverInRange formatOf statusByte inRange settled writeRefusal readRegister read writeRegister write pinned setPins transmitTick transmit receiveTick receive tick
+unfolding answerText linesTaken linesOf two three four five obey lineReply decimal refusalText valueText heldText countsText rowText saidText fieldOf fieldsOf part oddOnes parityBit sample link-transmitting.transmit link-hearing.receive line-range.inRange senderInRange receiverInRange formatOf statusByte inRange settled writeRefusal readRegister read writeRegister write pinned setPins transmitTick transmit receiveTick receive stamp tick
 shapes = refl
 
 -- a reset, of one unit alone; a count, a level and a value above their limits; the order of the three levels; no ticks at all
@@ -200,5 +201,5 @@ others =
     ++ bytes "P\tA\t1\t0\t0\nR\tA\t1\nP\tB\t0\t1\t0\nR\tB\t1\nL\t0\n"
 
 pub limits : answerText others ≡ bytes "R\tA\t2\t0\nR\tB\t3\t1\nE\t6\t6\nE\t7\t6\nE\t8\t6\nR\tA\t1\t68\nR\tB\t1\t133\nN\t13\t3\n"
-unfolding answerText linesTaken linesOf two three four five obey lineReply decimal refusalText valueText countsText rowText saidText fieldOf fieldsOf part oddOnes parityBit sample link-transmitting.transmit link-hearing.receive line-range.inRange senderInRange receiverInRange formatOf statusByte inRange settled writeRefusal readRegister read writeRegister write pinned setPins transmitTick transmit receiveTick receive tick
+unfolding answerText linesTaken linesOf two three four five obey lineReply decimal refusalText valueText heldText countsText rowText saidText fieldOf fieldsOf part oddOnes parityBit sample link-transmitting.transmit link-hearing.receive line-range.inRange senderInRange receiverInRange formatOf statusByte inRange settled writeRefusal readRegister read writeRegister write pinned setPins transmitTick transmit receiveTick receive stamp tick
 limits = refl

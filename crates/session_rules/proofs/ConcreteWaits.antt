@@ -19,6 +19,7 @@ use Rattle.ins2651_rules.specs.Refusals.{writeRefusal}
 use Rattle.ins2651_rules.specs.RegisterReads.{readRegister, read}
 use Rattle.ins2651_rules.specs.RegisterWrites.{writeRegister, write}
 use Rattle.ins2651_rules.specs.Pinning.{pinned, setPins}
+use Rattle.ins2651_rules.specs.Stamps.{stamp}
 use Rattle.ins2651_rules.specs.Ticks.{transmitTick, transmit, receiveTick, receive}
 use Rattle.ins2651_rules.specs.Runs as chip
 use Rattle.joined_rules.specs.Joining.{tick}
@@ -35,7 +36,7 @@ use Rattle.records.specs.declared.Record.the-variants.{Wait}
 use Rattle.records.specs.Records.{two, three, four, five}
 use Rattle.records.proofs.Parser.{print-printed}
 use Rattle.session_rules.specs.Calls.{obey, lineReply, saidText}
-use Rattle.rows.specs.Text.{decimal, refusalText, valueText, waitText, countsText, rowText}
+use Rattle.rows.specs.Text.{decimal, refusalText, valueText, heldText, waitText, countsText, rowText}
 use Rattle.session_rules.specs.Whole.{linesOf, linesTaken, answerText}
 use Rattle.session_rules.specs.Steps.{pairAfter}
 use Rattle.session_rules.specs.Delivered.{Meets, printed, end, Delivers, ShowsInTime}
@@ -60,13 +61,13 @@ waited-input =
     ++ bytes "B\tB\t65536\nB\tA\t100000\nW\tA\t0\t194\nB\tB\t22\nR\tB\t0\nB\tB\t14\n"
 
 pub waited-answer : answerText waited-input
-    ≡ bytes "B\tA\t1\nB\tB\t11\nR\tB\t0\t193\nB\tA\t10\nB\tA\t1\nB\tA\t0\nR\tA\t0\t90\nE\t18\t21\nE\t19\t6\nB\tB\t11\nR\tB\t0\t194\nB\tB\t14\nN\t23\t2\n"
-unfolding answerText linesTaken linesOf two three four five obey lineReply wait decimal refusalText valueText waitText countsText rowText saidText fieldOf fieldsOf part oddOnes parityBit sample link-transmitting.transmit link-hearing.receive line-range.inRange senderInRange receiverInRange formatOf statusByte inRange settled writeRefusal readRegister read writeRegister write pinned setPins transmitTick transmit receiveTick receive tick
+    ≡ bytes "B\tA\t1\nB\tB\t11\nR\tB\t0\t193\t12\nB\tA\t10\nB\tA\t1\nB\tA\t0\nR\tA\t0\t90\t23\nE\t18\t21\nE\t19\t6\nB\tB\t11\nR\tB\t0\t194\t34\nB\tB\t14\nN\t23\t2\n"
+unfolding answerText linesTaken linesOf two three four five obey lineReply wait decimal refusalText valueText heldText waitText countsText rowText saidText fieldOf fieldsOf part oddOnes parityBit sample link-transmitting.transmit link-hearing.receive line-range.inRange senderInRange receiverInRange formatOf statusByte inRange settled writeRefusal readRegister read writeRegister write pinned setPins transmitTick transmit receiveTick receive stamp tick
 waited-answer = refl
 
 -- its steps are those of the bench, the ticks that the waits spend among them, and as demand 3 allows
 pub waited-meets : Meets bench.one-stop bench.two-stops (linesTaken waited-input)
-unfolding answerText linesTaken linesOf two three four five obey lineReply wait decimal refusalText valueText waitText countsText rowText saidText fieldOf fieldsOf part oddOnes parityBit sample link-transmitting.transmit link-hearing.receive line-range.inRange senderInRange receiverInRange formatOf statusByte inRange settled writeRefusal readRegister read writeRegister write pinned setPins transmitTick transmit receiveTick receive tick
+unfolding answerText linesTaken linesOf two three four five obey lineReply wait decimal refusalText valueText heldText waitText countsText rowText saidText fieldOf fieldsOf part oddOnes parityBit sample link-transmitting.transmit link-hearing.receive line-range.inRange senderInRange receiverInRange formatOf statusByte inRange settled writeRefusal readRegister read writeRegister write pinned setPins transmitTick transmit receiveTick receive stamp tick
 waited-meets =
     record {
       parted = record {
@@ -85,13 +86,13 @@ waited-meets =
 pub waited-delivers : (s : Side) → Delivers s (sends (settingsAt bench.one-stop bench.two-stops s)) (waited-meets .parted)
 waited-delivers = text-delivers bench.one-stop bench.two-stops bench.one-stop-proper bench.two-stops-proper bench.stops-agree (linesTaken waited-input) waited-meets
 
-pub waited-prints : (printed A (linesTaken waited-input) ≡ bytes "R\tB\t0\t193\n" ∷ bytes "R\tB\t0\t194\n" ∷ []) × (printed B (linesTaken waited-input) ≡ bytes "R\tA\t0\t90\n" ∷ [])
-unfolding answerText linesTaken linesOf two three four five obey lineReply wait decimal refusalText valueText waitText countsText rowText saidText fieldOf fieldsOf part oddOnes parityBit sample link-transmitting.transmit link-hearing.receive line-range.inRange senderInRange receiverInRange formatOf statusByte inRange settled writeRefusal readRegister read writeRegister write pinned setPins transmitTick transmit receiveTick receive tick
+pub waited-prints : (printed A (linesTaken waited-input) ≡ bytes "R\tB\t0\t193\t12\n" ∷ bytes "R\tB\t0\t194\t34\n" ∷ []) × (printed B (linesTaken waited-input) ≡ bytes "R\tA\t0\t90\t23\n" ∷ [])
+unfolding answerText linesTaken linesOf two three four five obey lineReply wait decimal refusalText valueText heldText waitText countsText rowText saidText fieldOf fieldsOf part oddOnes parityBit sample link-transmitting.transmit link-hearing.receive line-range.inRange senderInRange receiverInRange formatOf statusByte inRange settled writeRefusal readRegister read writeRegister write pinned setPins transmitTick transmit receiveTick receive stamp tick
 waited-prints = (refl, refl)
 
 -- .. and all of it, as L+D joined ticks pass behind the last write each way
 pub waited-finished : (s : Side) → Finished (wayFrom s) (sends (settingsAt bench.one-stop bench.two-stops s)) (end s (waited-meets .parted))
-unfolding waited-meets answerText linesTaken linesOf two three four five obey lineReply wait decimal refusalText valueText waitText countsText rowText saidText fieldOf fieldsOf part oddOnes parityBit sample link-transmitting.transmit link-hearing.receive line-range.inRange senderInRange receiverInRange formatOf statusByte inRange settled writeRefusal readRegister read writeRegister write pinned setPins transmitTick transmit receiveTick receive tick
+unfolding waited-meets answerText linesTaken linesOf two three four five obey lineReply wait decimal refusalText valueText heldText waitText countsText rowText saidText fieldOf fieldsOf part oddOnes parityBit sample link-transmitting.transmit link-hearing.receive line-range.inRange senderInRange receiverInRange formatOf statusByte inRange settled writeRefusal readRegister read writeRegister write pinned setPins transmitTick transmit receiveTick receive stamp tick
 waited-finished A = record { passed = leb-true 43 47 refl; read = refl }
 waited-finished B = record { passed = leb-true 33 47 refl; read = refl }
 
@@ -101,7 +102,7 @@ abbrev pub awaiting-lines : List (List ℕ)
 awaiting-lines = linesTaken (set-up-lines ++ bytes "W\tA\t0\t193\n")
 
 pub awaiting-meets : Meets bench.one-stop bench.two-stops awaiting-lines
-unfolding answerText linesTaken linesOf two three four five obey lineReply wait decimal refusalText valueText waitText countsText rowText saidText fieldOf fieldsOf part oddOnes parityBit sample link-transmitting.transmit link-hearing.receive line-range.inRange senderInRange receiverInRange formatOf statusByte inRange settled writeRefusal readRegister read writeRegister write pinned setPins transmitTick transmit receiveTick receive tick
+unfolding answerText linesTaken linesOf two three four five obey lineReply wait decimal refusalText valueText heldText waitText countsText rowText saidText fieldOf fieldsOf part oddOnes parityBit sample link-transmitting.transmit link-hearing.receive line-range.inRange senderInRange receiverInRange formatOf statusByte inRange settled writeRefusal readRegister read writeRegister write pinned setPins transmitTick transmit receiveTick receive stamp tick
 awaiting-meets =
     record {
       parted = record { set-up = setting-up; after = At A (chip.Write 0 193) ∷ []; steps = refl; quiet = record { calls = refl; a-quiet = refl; b-quiet = refl } };
@@ -114,7 +115,7 @@ awaiting-meets =
 pub awaiting-stops :
     (n : ℕ)
     → ShowsInTime (sends bench.one-stop) unit.B (saidText n (lineReply (pairAfter justReset awaiting-lines) (bytes "B\tB\t21") .said)) (lineReply (pairAfter justReset awaiting-lines) (bytes "B\tB\t21") .pair)
-unfolding awaiting-meets answerText linesTaken linesOf two three four five obey lineReply wait decimal refusalText valueText waitText countsText rowText saidText fieldOf fieldsOf part oddOnes parityBit sample link-transmitting.transmit link-hearing.receive line-range.inRange senderInRange receiverInRange formatOf statusByte inRange settled writeRefusal readRegister read writeRegister write pinned setPins transmitTick transmit receiveTick receive tick
+unfolding awaiting-meets answerText linesTaken linesOf two three four five obey lineReply wait decimal refusalText valueText heldText waitText countsText rowText saidText fieldOf fieldsOf part oddOnes parityBit sample link-transmitting.transmit link-hearing.receive line-range.inRange senderInRange receiverInRange formatOf statusByte inRange settled writeRefusal readRegister read writeRegister write pinned setPins transmitTick transmit receiveTick receive stamp tick
 awaiting-stops =
     text-waits bench.one-stop bench.two-stops bench.one-stop-proper bench.two-stops-proper bench.stops-agree unit.B awaiting-lines awaiting-meets (ltb-true 0 1 refl) 21 (bytes "B\tB\t21")
     (print-printed (Wait (code "B") 21) refl) (leb-true 21 21 refl) (leb-true 21 65535 refl)

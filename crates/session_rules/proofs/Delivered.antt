@@ -13,7 +13,10 @@ use Rattle.line_rules.proofs.Table.{both}
 use Rattle.fields.specs.Parted.{fieldsOf}
 use Rattle.ins2651_rules.specs.Runs as chip
 use Rattle.ins2651_rules.specs.RegisterReads.{readRegister, read}
+use Rattle.ins2651_rules.specs.Stamps.{stamp}
 use Rattle.ins2651_rules.specs.History.{reads, writesHolding}
+use Rattle.ins2651_rules.specs.Line.{Held}
+use Rattle.ins2651_rules.specs.declared.Device.{Device}
 use Rattle.ins2651_ends.specs.OnALine.{unread, character}
 use Rattle.delivery.specs.OneWay.{Deed, Ticks, Writes, Reads, Passes, getting, puts, gets}
 use Rattle.delivery.specs.Promise.{InOrder}
@@ -29,63 +32,95 @@ use Rattle.records.specs.declared.Record.the-variants as record-of
 use Rattle.records.specs.Records.{aUnit, recordOf}
 use Rattle.records.specs.Printed.{proper}
 use Rattle.records.proofs.Parser.{reads-printed}
-use Rattle.rows.specs.Text.{rowText, valueText}
+use Rattle.rows.specs.Text.{rowText}
 use Rattle.session_rules.specs.declared.Said.{Said}
 use Rattle.session_rules.specs.Calls.{unitOf, obey, lineReply, saidText}
 use Rattle.session_rules.specs.Rows.{overlong, shapeless}
 use Rattle.session_rules.specs.Steps.{side, recordSteps, lineSteps, allSteps}
 use Rattle.session_rules.specs.Whole.{answers, lineTexts}
-use Rattle.session_rules.specs.Delivered.{Meets, formatFrom, MeetsFrom, letterAt, isRead, fetches, fetching, marked, printed, Shows, Delivers}
+use Rattle.session_rules.specs.Delivered.{Meets, formatFrom, MeetsFrom, letterAt, isRead, fetches, fetching, marked, printed, line, Shows, Delivers}
 use Rattle.session_rules.proofs.Lines.{line-moves}
+
+-- == what is read, with its stamp ==
+
+abbrev held : Device → Held
+held d = record { value = character d; stamp = stamp d }
+
+-- as `getting` and `gets` of `delivery`, with stamps
+abbrev taking : Bool → Held → Deed → List Held → List Held
+taking u h Ticks hs = hs
+taking u h (Writes v) hs = hs
+taking u h Reads hs = cond u (h ∷ hs) hs
+taking u h Passes hs = hs
+
+abbrev takes : Side → Pair → List Step → List Held
+takes s p [] = []
+takes s p (x ∷ xs) = taking (unread (deviceAt (other s) p)) (held (deviceAt (other s) p)) (deedFrom s p x) (takes s (moved p x) xs)
+
+abbrev values : List Held → List ℕ
+values hs = map (λ (h : Held). h .value) hs
+
+taking-gets : (u : Bool) (h : Held) (k : Deed) (hs : List Held) → values (taking u h k hs) ≡ getting u (h .value) k (values hs)
+taking-gets u h Ticks hs = refl
+taking-gets u h (Writes v) hs = refl
+taking-gets true h Reads hs = refl
+taking-gets false h Reads hs = refl
+taking-gets u h Passes hs = refl
+
+takes-gets : (s : Side) (p : Pair) (xs : List Step) → values (takes s p xs) ≡ gets (wayFrom s) p xs
+takes-gets s p [] = refl
+takes-gets s p (x ∷ xs) =
+    let d : Device = deviceAt (other s) p in
+    taking-gets (unread d) (held d) (deedFrom s p x) (takes s (moved p x) xs) ∙ ap (getting (unread d) (character d) (deedFrom s p x)) (takes-gets s (moved p x) xs)
 
 -- == one line ==
 
--- what the steps get before others
-gets-append : (s : Side) (p : Pair) (xs ys : List Step) → gets (wayFrom s) p (xs ++ ys) ≡ gets (wayFrom s) p xs ++ gets (wayFrom s) (allMoved p xs) ys
-gets-append s p [] ys = refl
-gets-append s p (x ∷ xs) ys = ap (getting (unread (deviceAt (other s) p)) (character (deviceAt (other s) p)) (deedFrom s p x)) (gets-append s (moved p x) xs ys)
-    ∙ getting-append (unread (deviceAt (other s) p)) (deedFrom s p x)
+-- what the steps take before others
+takes-append : (s : Side) (p : Pair) (xs ys : List Step) → takes s p (xs ++ ys) ≡ takes s p xs ++ takes s (allMoved p xs) ys
+takes-append s p [] ys = refl
+takes-append s p (x ∷ xs) ys = ap (taking (unread (deviceAt (other s) p)) h (deedFrom s p x)) (takes-append s (moved p x) xs ys)
+    ∙ taking-append (unread (deviceAt (other s) p)) (deedFrom s p x)
   where
-    vs : List ℕ
-    vs = gets (wayFrom s) (moved p x) xs
+    vs : List Held
+    vs = takes s (moved p x) xs
 
-    ws : List ℕ
-    ws = gets (wayFrom s) (allMoved (moved p x) xs) ys
+    ws : List Held
+    ws = takes s (allMoved (moved p x) xs) ys
 
-    c : ℕ
-    c = character (deviceAt (other s) p)
+    h : Held
+    h = held (deviceAt (other s) p)
 
-    getting-append : (u : Bool) (k : Deed) → getting u c k (vs ++ ws) ≡ getting u c k vs ++ ws
-    getting-append u Ticks = refl
-    getting-append u (Writes v) = refl
-    getting-append true Reads = refl
-    getting-append false Reads = refl
-    getting-append u Passes = refl
+    taking-append : (u : Bool) (k : Deed) → taking u h k (vs ++ ws) ≡ taking u h k vs ++ ws
+    taking-append u Ticks = refl
+    taking-append u (Writes v) = refl
+    taking-append true Reads = refl
+    taking-append false Reads = refl
+    taking-append u Passes = refl
 
--- ticks get nothing
-ticks-get : (s : Side) (n : ℕ) (p : Pair) → gets (wayFrom s) p (replicate n Tick) ≡ []
-ticks-get s zero p = refl
-ticks-get A (suc n) p = ticks-get A n (moved p Tick)
-ticks-get B (suc n) p = ticks-get B n (moved p Tick)
+-- ticks take nothing
+ticks-take : (s : Side) (n : ℕ) (p : Pair) → takes s p (replicate n Tick) ≡ []
+ticks-take s zero p = refl
+ticks-take A (suc n) p = ticks-take A n (moved p Tick)
+ticks-take B (suc n) p = ticks-take B n (moved p Tick)
 
 -- what is printed for a line of one step, where it is for a read that it prints the character
-one-step : (unit c : ℕ) (k : Deed) (u : Bool) (text : List ℕ) (rest : List (List ℕ)) → (isRead k ≡ true → text ≡ valueText unit 0 c)
-    → cond (isRead k && u) (text ∷ rest) rest ≡ map (valueText unit 0) (getting u c k []) ++ rest
+one-step : (unit : ℕ) (c : Held) (k : Deed) (u : Bool) (text : List ℕ) (rest : List (List ℕ)) → (isRead k ≡ true → text ≡ line unit c)
+    → cond (isRead k && u) (text ∷ rest) rest ≡ map (line unit) (taking u c k []) ++ rest
 one-step unit c Ticks u text rest h = refl
 one-step unit c (Writes v) u text rest h = refl
 one-step unit c Reads true text rest h = ap (λ (t : List ℕ). t ∷ rest) (h refl)
 one-step unit c Reads false text rest h = refl
 one-step unit c Passes u text rest h = refl
 
--- what is no read gets nothing
-gets-none : (u : Bool) (c : ℕ) (k : Deed) → isRead k ≡ false → getting u c k [] ≡ []
-gets-none u c Ticks h = refl
-gets-none u c (Writes v) h = refl
-gets-none u c Reads h = absurd (false≢true (sym h))
-gets-none u c Passes h = refl
+-- what is no read takes nothing
+takes-none : (u : Bool) (c : Held) (k : Deed) → isRead k ≡ false → taking u c k [] ≡ []
+takes-none u c Ticks h = refl
+takes-none u c (Writes v) h = refl
+takes-none u c Reads h = absurd (false≢true (sym h))
+takes-none u c Passes h = refl
 
--- a read of address 0 prints what the device holds
-read-said : (s : Side) (n : ℕ) (p : Pair) → saidText n (obey p (Read (letterAt s) 0) .said) ≡ valueText (letterAt s) 0 (character (deviceAt s p))
+-- a read of address 0 prints what the device holds, with its stamp
+read-said : (s : Side) (n : ℕ) (p : Pair) → saidText n (obey p (Read (letterAt s) 0) .said) ≡ line (letterAt s) (held (deviceAt s p))
 unfolding obey saidText rowText read readRegister
 read-said A n p = refl
 read-said B n p = refl
@@ -117,26 +152,26 @@ module _ (s : Side) (n : ℕ) (p : Pair) (rest : List (List ℕ)) where
 
   -- what is printed for these steps of a line that says so
   abbrev Prints : List Step → Said → Type 0
-  Prints xs said = cond (fetches s p xs) (saidText n said ∷ rest) rest ≡ map (valueText unit 0) (gets (wayFrom s) p xs) ++ rest
+  Prints xs said = cond (fetches s p xs) (saidText n said ∷ rest) rest ≡ map (line unit) (takes s p xs) ++ rest
 
   -- a call that is no read
   silent : (t : Side) (c : chip.Call) (said : Said) → reads 0 c ≡ false → Prints (At t c ∷ []) said
   silent t c said h =
       let z = no-read s t p c h in
-      rw z (ap (λ (vs : List ℕ). map (valueText unit 0) vs ++ rest) (sym (gets-none (unread (deviceAt (other s) p)) (character (deviceAt (other s) p)) (deedFrom s p (At t c)) z)))
+      rw z (ap (λ (hs : List Held). map (line unit) hs ++ rest) (sym (takes-none (unread (deviceAt (other s) p)) (held (deviceAt (other s) p)) (deedFrom s p (At t c)) z)))
 
   ticks-print : (k : ℕ) (said : Said) → Prints (replicate k Tick) said
   ticks-print zero said = refl
   ticks-print (suc k) said = side-prints s
     where
-      side-prints : (s : Side) → cond (fetches s p (Tick ∷ replicate k Tick)) (saidText n said ∷ rest) rest ≡ map (valueText (letterAt (other s)) 0) (gets (wayFrom s) p (replicate (suc k) Tick)) ++ rest
-      side-prints A = rw (ticks-get A k (moved p Tick))
-      side-prints B = rw (ticks-get B k (moved p Tick))
+      side-prints : (s : Side) → cond (fetches s p (Tick ∷ replicate k Tick)) (saidText n said ∷ rest) rest ≡ map (line (letterAt (other s))) (takes s p (replicate (suc k) Tick)) ++ rest
+      side-prints A = rw (ticks-take A k (moved p Tick))
+      side-prints B = rw (ticks-take B k (moved p Tick))
 
   record-prints : (r : Record) → (shapeless r ≡ false → proper r ≡ true) → Prints (recordSteps p r) (obey p r .said)
   record-prints (Write u address v) h = silent (side u) (chip.Write address v) (obey p (Write u address v) .said) refl
   record-prints (Read u address) h =
-      one-step unit (character (deviceAt (other s) p)) (deedFrom s p (At (side u) (chip.Read address))) (unread (deviceAt (other s) p))
+      one-step unit (held (deviceAt (other s) p)) (deedFrom s p (At (side u) (chip.Read address))) (unread (deviceAt (other s) p))
       (saidText n (obey p (Read u address) .said)) rest
       (λ r. let e = at-read s p u address (both (aUnit u) (leb address 255) (h refl) .0) r in
       ap₂ (λ (x y : ℕ). saidText n (obey p (Read x y) .said)) (e .0) (e .1) ∙ read-said (other s) n p)
@@ -166,20 +201,20 @@ marked-first : {X : Type 0} (t : Bool) (bs : List Bool) (x : X) (xs : List X) �
 marked-first true bs x xs = refl
 marked-first false bs x xs = refl
 
-prints-gets : (s : Side) (n : ℕ) (p : Pair) (ls : List (List ℕ))
-    → marked (fetching s p ls) (lineTexts n (answers p ls)) ≡ map (valueText (letterAt (other s)) 0) (gets (wayFrom s) p (allSteps p ls))
-prints-gets s n p [] = refl
-prints-gets s n p (l ∷ ls) =
+prints-taken : (s : Side) (n : ℕ) (p : Pair) (ls : List (List ℕ))
+    → marked (fetching s p ls) (lineTexts n (answers p ls)) ≡ map (line (letterAt (other s))) (takes s p (allSteps p ls))
+prints-taken s n p [] = refl
+prints-taken s n p (l ∷ ls) =
     let after : Pair = lineReply p l .pair in
     let rest : List (List ℕ) = marked (fetching s after ls) (lineTexts (suc n) (answers after ls)) in
-    let here : List ℕ = gets (wayFrom s) p (lineSteps p l) in
-    let later : List ℕ = gets (wayFrom s) (allMoved p (lineSteps p l)) (allSteps after ls) in
+    let here : List Held = takes s p (lineSteps p l) in
+    let later : List Held = takes s (allMoved p (lineSteps p l)) (allSteps after ls) in
     marked-first (fetches s p (lineSteps p l)) (fetching s after ls) (saidText n (lineReply p l .said)) (lineTexts (suc n) (answers after ls))
     ∙ line-prints s n p rest l
-    ∙ ap (λ (ts : List (List ℕ)). map (valueText (letterAt (other s)) 0) here ++ ts)
-    (prints-gets s (suc n) after ls ∙ ap (λ (q : Pair). map (valueText (letterAt (other s)) 0) (gets (wayFrom s) q (allSteps after ls))) (sym (line-moves p l)))
-    ∙ sym (map-append (valueText (letterAt (other s)) 0) here later)
-    ∙ ap (map (valueText (letterAt (other s)) 0)) (sym (gets-append s p (lineSteps p l) (allSteps after ls)))
+    ∙ ap (λ (ts : List (List ℕ)). map (line (letterAt (other s))) here ++ ts)
+    (prints-taken s (suc n) after ls ∙ ap (λ (q : Pair). map (line (letterAt (other s))) (takes s q (allSteps after ls))) (sym (line-moves p l)))
+    ∙ sym (map-append (line (letterAt (other s))) here later)
+    ∙ ap (map (line (letterAt (other s)))) (sym (takes-append s p (lineSteps p l) (allSteps after ls)))
 
 -- what is read in order is shown in order
 shows : (s : Side) (f : Format) {finished : Type 0} (lines : List (List ℕ)) {xs : List Step} → allSteps justReset lines ≡ xs
@@ -187,9 +222,10 @@ shows : (s : Side) (f : Format) {finished : Type 0} (lines : List (List ℕ)) {x
     → Shows f finished (letterAt (other s)) (printed s lines) (puts (wayFrom s) justReset (allSteps justReset lines))
 shows s f {finished} lines e h =
     record {
-      values = gets (wayFrom s) justReset (allSteps justReset lines);
-      shown = prints-gets s 1 justReset lines;
-      in-order = subst (λ (ys : List Step). InOrder f finished (gets (wayFrom s) justReset ys) (puts (wayFrom s) justReset ys)) (sym e) h;
+      characters = takes s justReset (allSteps justReset lines);
+      shown = prints-taken s 1 justReset lines;
+      in-order = subst (λ (vs : List ℕ). InOrder f finished vs (puts (wayFrom s) justReset (allSteps justReset lines))) (sym (takes-gets s justReset (allSteps justReset lines)))
+          (subst (λ (ys : List Step). InOrder f finished (gets (wayFrom s) justReset ys) (puts (wayFrom s) justReset ys)) (sym e) h);
     }
 
 -- one way, whatever happens on the other

@@ -10,6 +10,8 @@ use lib.Dec.{ltb, eqb}
 use lib.ListN.{length}
 use Rattle.fields.specs.Parted.{fieldsOf}
 use Rattle.ins2651_rules.specs.declared.Device.{Device}
+use Rattle.ins2651_rules.specs.RegisterReads.{readRegister, read}
+use Rattle.ins2651_rules.specs.Stamps.{stamp}
 use Rattle.ins2651_rules.specs.Runs as chip
 use Rattle.ins2651_rules.proofs.Refused.{given-exactly, answers-refusal, refused-unchanged}
 use Rattle.joined_rules.specs.declared.Pair.{Pair}
@@ -20,14 +22,14 @@ use Rattle.joined_rules.specs.declared.Waited.{Waited}
 use Rattle.joined_rules.specs.Waiting.{ticksUntil, wait}
 use Rattle.joined_rules.proofs.Promised.{ticks-are-the-run}
 use Rattle.joined_rules.proofs.Waits.{wait-refused, wait-done, wait-number, wait-ticks}
-use Rattle.line_rules.proofs.Choice.{each}
+use Rattle.line_rules.proofs.Choice.{either, each}
 use Rattle.records.specs.declared.Record.{Record}
 use Rattle.records.specs.declared.Record.the-variants.{Write, Read, Pins, Reset, Ticks, Wait, Shapeless}
 use Rattle.session_rules.specs.declared.Said.{Said}
-use Rattle.session_rules.specs.declared.Said.the-variants.{Nothing, Value}
+use Rattle.session_rules.specs.declared.Said.the-variants.{Nothing}
 use Rattle.session_rules.specs.declared.Said.the-variants as said
 use Rattle.records.specs.Records.{recordOf}
-use Rattle.session_rules.specs.Calls.{deviceOf, unitOf, putBack, verdict, obey, lineReply, number}
+use Rattle.session_rules.specs.Calls.{deviceOf, unitOf, putBack, verdict, shown, shownBy, obey, lineReply, number}
 use Rattle.session_rules.specs.Rows.{shapeless, waitsTooLong, ownRefusal, overlong, lineRefusal, Exactly, lineRefusals, given}
 use Rattle.session_rules.specs.Steps.{side, recordSteps, lineSteps, allSteps, pairAfter}
 use Rattle.session_rules.specs.Whole.{answers, refusals}
@@ -46,11 +48,26 @@ wait-says p unit limit h = rw (wait-done p (unitOf unit) limit h)
 number-verdict : (n : ℕ) (s : Said) → number s ≡ 0 → number (verdict n s) ≡ n
 number-verdict n s z = each (λ (v : Said). number v ≡ n) (eqb n 0) (λ t. z ∙ sym (eqb-true n 0 t)) (λ t. refl)
 
+-- a read that is done says so
+shown-done : (d : Device) (unit address : ℕ) → number (shown d unit address) ≡ 0
+shown-done d unit address = either (λ (s : Said). number s ≡ 0) (eqb address 0) refl refl
+
+-- a read leaves the stamp, so that what it answers has it
+pub shown-by : (d : Device) (unit address : ℕ) → shownBy unit address (read d address) ≡ shown d unit address
+unfolding read readRegister stamp
+shown-by d unit address = go (eqb address 0) refl
+  where
+    go : (b : Bool) → eqb address 0 ≡ b
+        → cond b (said.Held unit (read d address .value) (read d address .device .receiver .stamp)) (said.Value unit address (read d address .value))
+        ≡ cond b (said.Held unit (read d address .value) (stamp d)) (said.Value unit address (read d address .value))
+    go true e = ap (λ (a : ℕ). said.Held unit (read d address .value) (read d a .device .receiver .stamp)) (eqb-true address 0 e)
+    go false e = refl
+
 -- a record's number: 6 for no shape, else the call's own
 record-number : (p : Pair) (r : Record) → number (obey p r .said) ≡ cond (shapeless r) 6 (ownRefusal p r)
 unfolding obey
 record-number p (Write unit address v) = number-verdict _ Nothing refl ∙ answers-refusal (deviceOf p unit) (chip.Write address v)
-record-number p (Read unit address) = number-verdict _ (Value unit address _) refl ∙ answers-refusal (deviceOf p unit) (chip.Read address)
+record-number p (Read unit address) = number-verdict _ (shown (deviceOf p unit) unit address) (shown-done (deviceOf p unit) unit address) ∙ answers-refusal (deviceOf p unit) (chip.Read address)
 record-number p (Pins unit dsr dcd cts) = number-verdict _ Nothing refl ∙ answers-refusal (deviceOf p unit) (chip.SetPins dsr dcd cts)
 record-number p (Reset unit) = refl
 record-number p (Ticks count) = refl

@@ -1,4 +1,5 @@
--- What a record does to the two joined devices, and what is said of it: document 01, "The session text" and "Refusal numbers"; request P12, a wait.
+-- What a record does to the two joined devices, and what is said of it: document 01, "The session text" and "Refusal numbers"; requests P4, a stamp,
+-- and P12, a wait.
 -- Assumes nothing.
 use Prim.Native.Nat.{ℕ}
 use Prim.Native.Char.{code}
@@ -8,11 +9,13 @@ use lib.Dec.{eqb, ltb}
 use lib.ListN.{length}
 use Rattle.fields.specs.Parted.{fieldsOf}
 use Rattle.ins2651_rules.specs.declared.Device.{Device}
+use Rattle.ins2651_rules.specs.declared.Answer.{Answer}
 use Rattle.ins2651_rules.specs.declared.Outcome.{Outcome}
 use Rattle.ins2651_rules.specs.Shape.{resetDevice}
 use Rattle.ins2651_rules.specs.RegisterReads.{read}
 use Rattle.ins2651_rules.specs.RegisterWrites.{write}
 use Rattle.ins2651_rules.specs.Pinning.{setPins}
+use Rattle.ins2651_rules.specs.Stamps.{stamp}
 use Rattle.joined_rules.specs.declared.Pair.{Pair}
 use Rattle.joined_rules.specs.declared.Unit.{Unit}
 use Rattle.joined_rules.specs.declared.Unit.the-variants as unit
@@ -24,7 +27,7 @@ use Rattle.rows.specs.declared.Row.{Row}
 use Rattle.rows.specs.declared.Row.the-variants as row
 use Rattle.rows.specs.Text.{rowText}
 use Rattle.session_rules.specs.declared.Said.{Said}
-use Rattle.session_rules.specs.declared.Said.the-variants.{Nothing, Value, Waited, Refusal}
+use Rattle.session_rules.specs.declared.Said.the-variants.{Nothing, Value, Held, Waited, Refusal}
 use Rattle.session_rules.specs.declared.Reply.{Reply}
 use Rattle.records.specs.Records.{recordOf}
 
@@ -54,11 +57,17 @@ replied p unit d s = record { pair = putBack p unit d; said = s }
 abbrev pub answered : Pair → ℕ → Outcome → Reply
 answered p unit o = replied p unit (o .device) (verdict (o .refusal) Nothing)
 
--- a read shows its value where it is done
+-- what a read shows where it is done: its value, and of address 0 the stamp of the held character too (request P4)
+abbrev pub shown : Device → ℕ → ℕ → Said
+shown d unit address = cond (eqb address 0) (Held unit (read d address .value) (stamp d)) (Value unit address (read d address .value))
+
+-- the same by what the read answers: it leaves the stamp (proofs/Lines.antt, `shown-by`)
+abbrev pub shownBy : ℕ → ℕ → Answer → Said
+shownBy unit address a = cond (eqb address 0) (Held unit (a .value) (a .device .receiver .stamp)) (Value unit address (a .value))
+
 abbrev pub reading : Pair → ℕ → ℕ → Reply
 reading p unit address =
-    replied p unit (read (deviceOf p unit) address .device)
-    (verdict (read (deviceOf p unit) address .refusal) (Value unit address (read (deviceOf p unit) address .value)))
+    replied p unit (read (deviceOf p unit) address .device) (verdict (read (deviceOf p unit) address .refusal) (shown (deviceOf p unit) unit address))
 
 -- so many joined ticks; a line has 65535 at most, so that 16 is never said of it
 abbrev pub ticking : Pair → ℕ → Reply
@@ -93,6 +102,7 @@ lineReply p line = cond (ltb 64 (length line)) (refused p 7) (obey p (recordOf (
 abbrev pub number : Said → ℕ
 number Nothing = 0
 number (Value unit address v) = 0
+number (Held unit v t) = 0
 number (Waited unit count) = 0
 number (Refusal n) = n
 
@@ -100,6 +110,7 @@ number (Refusal n) = n
 abbrev pub rowOf : ℕ → Said → Row
 rowOf line Nothing = row.Nothing
 rowOf line (Value unit address v) = row.Value unit address v
+rowOf line (Held unit v t) = row.Held unit v t
 rowOf line (Waited unit count) = row.Waited unit count
 rowOf line (Refusal n) = row.Refusal line n
 

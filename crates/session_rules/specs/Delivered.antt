@@ -9,6 +9,7 @@ use mathlib.Core.List.{List, [], _∷_, _++_, map}
 use Rattle.line_rules.specs.declared.Format.{Format}
 use Rattle.line_rules.specs.Sending.{frameLength}
 use Rattle.ins2651_rules.specs.Modes.{sendFormat}
+use Rattle.ins2651_rules.specs.Line.{Held}
 use Rattle.ins2651_ends.specs.OnALine.{unread}
 use Rattle.delivery.specs.OneWay.{Deed, Ticks, Writes, Reads, Passes, Logged, noLog, puts}
 use Rattle.delivery.specs.OneWay as one-way
@@ -23,7 +24,7 @@ use Rattle.joined_rules.specs.declared.Waited.{Waited}
 use Rattle.joined_rules.specs.Waiting.{sideOf, StopsInTime}
 use Rattle.records.specs.declared.Record.the-variants.{Wait}
 use Rattle.records.specs.Printed.{Printed}
-use Rattle.rows.specs.Text.{valueText, waitText}
+use Rattle.rows.specs.Text.{heldText, waitText}
 use Rattle.session_rules.specs.Calls.{lineReply, saidText}
 use Rattle.session_rules.specs.Whole.{answers, lineTexts}
 use Rattle.session_rules.specs.Steps.{lineSteps, allSteps, pairAfter}
@@ -95,11 +96,15 @@ printed s lines = marked (fetching s justReset lines) (lineTexts 1 (answers just
 
 -- == the promise ==
 
--- `R`, unit, 0 and a value each; the values are a beginning of those that were written, cut, in order, and all of them where the run is finished
+-- a character that was read, as a line of this unit
+abbrev pub line : ℕ → Held → List ℕ
+line unit h = heldText unit (h .value) (h .stamp)
+
+-- `R`, unit, 0, a value and a stamp each; the values are a beginning of those that were written, cut, in order, and all of them where the run is finished
 pub record Shows (f : Format) (finished : Type 0) (unit : ℕ) (texts : List (List ℕ)) (written : List ℕ) : Type 0 where
-  pub values : List ℕ
-  pub shown : texts ≡ map (valueText unit 0) values
-  pub in-order : InOrder f finished values written
+  pub characters : List Held
+  pub shown : texts ≡ map (line unit) characters
+  pub in-order : InOrder f finished (map (λ (h : Held). h .value) characters) written
 
 -- the run behind the lines, on the way from this side
 abbrev pub end : {lines : List (List ℕ)} → Side → Parted lines → Logged Pair

@@ -3,12 +3,14 @@
 // proving the calls again.
 use fields::Fields;
 use joined_rules::Pair;
+use line_rules::RxC;
 
-// What is said of a line: nothing where it is done, unit, address and value of a read, unit and count of a wait, or the number
-// of its refusal.
+// What is said of a line: nothing where it is done, unit, address and value of a read, unit, value and stamp of one of address 0 (P4), unit and
+// count of a wait, or the number of its refusal.
 pub enum Said {
     Nothing,
     Value(u8, u8, u8),
+    Held(u8, u8, RxC),
     Waited(u8, u16),
     Refusal(u8),
 }

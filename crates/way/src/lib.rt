@@ -7,22 +7,46 @@ ghost use Prim.Native.Nat.{_+_, _*_, _-_, _^_, _%_, _≤_, _<_};
 ghost use lib.Dec.{eqb};
 ghost use Rattle.line_rules.specs.Sending.{bit, half, level};
 ghost use Rattle.line_rules.specs.Receiving.{under, stopLook, lookAt};
-ghost use Rattle.link_rules.specs.Transmitting.{frameTick, beginTick};
+ghost use Rattle.link_rules.specs.Transmitting.{frameTick, beginTick, sending};
+ghost use Rattle.link_rules.specs.Hearing.{hearing};
+ghost use Rattle.way_rules.specs.Parts;
 ghost use Rattle.way_rules.specs.Parts.{withoutFrame, withMark, resting, assembled, tuned};
-ghost use Rattle.way_rules.specs.Along.{sent, received, sentBy, heardBy, heardAs, wayTick, wayTicks};
+ghost use Rattle.way_rules.specs.Along.{sentBy, heardBy, heardAs, wayTick, wayTicks};
 ghost use Rattle.way_rules.specs.Calm;
 ghost use Rattle.way_rules.specs.Until.{unread, doneUntil};
 ghost use Rattle.way_rules.specs.Leap.{lastLook, soFar, sameBits, bothBusy, inStep, flyAt, leapTicks, looksAhead, leapLooks, doneAtOnce, Narrow, Leaps};
-ghost use Rattle.way_rules.specs.Calm.{placesLeft, senderLevel, senderCalm, bitLeft, senderKeeps, senderSkipped, heardCalm, wayCalm, waySkipped, senderStands, receiverStands};
+ghost use Rattle.way_rules.specs.Calm.{placesLeft, senderLevel, senderCalm, bitLeft, senderKeeps, senderMoved, heardCalm, wayCalm, waySkipped, wayLater, senderStands, receiverStands};
 use line_rules::Format;
+use line_rules::RxC;
 use link_rules::Frame;
 use link_rules::ReceiverHalf;
 use link_rules::SenderHalf;
 use way_rules::Ends;
+use way_rules::Faults;
 use way_rules::Moved;
 use way_rules::Way;
 
 // == a tick ==
+
+// The same way, k ticks on by both tallies (P4). Its four flags are stored one by one as they were: as nothing else is stored beside them here,
+// they would be kept as one number, which every turn of `along` takes apart.
+fn later(k: u16, mut w: Way) -> Way
+    ensures { λ r. ⌜ r ≡ wayLater k w ⌝ }
+{
+    let sent = line::tx_later(w.sender.tally, k);
+    let heard = line::rx_later(w.receiver.tally, k);
+    let empty = w.empty;
+    let framing = w.faults.framing;
+    let overrun = w.faults.overrun;
+    let parity = w.faults.parity;
+    w.sender.tally.0 = sent.0;
+    w.receiver.tally.0 = heard.0;
+    w.empty = empty;
+    w.faults.framing = framing;
+    w.faults.overrun = overrun;
+    w.faults.parity = parity;
+    w
+}
 
 // The level of the sender's next tick. A frame in its stop needs no division.
 fn level_now(e: Ends, s: SenderHalf) -> bool
@@ -67,7 +91,7 @@ fn ended(on: bool, mut w: Way) -> Way
     unframed(w)
 }
 
-// The waiting character begins its frame.
+// The waiting character begins its frame, with the tick that the tally has just counted as its start (P4).
 fn begun(e: Ends, mut w: Way) -> Way
     ensures { λ r. ⌜ r ≡ sentBy e w (beginTick (w .sender) (e .send)) ⌝ }
 {
@@ -78,8 +102,10 @@ fn begun(e: Ends, mut w: Way) -> Way
     let parity = e.send.parity;
     let even = e.send.even;
     let stop = e.send.stop;
+    let start = w.sender.tally.0;
     w.sender.holding = 0;
     w.sender.full = 0;
+    w.sender.start.0 = start;
     if 0 < place {
         w.sender.frame.character = character;
         w.sender.frame.format.factor = factor;
@@ -106,9 +132,9 @@ fn framed(e: Ends, mut w: Way) -> Way
     ended(on, w)
 }
 
-// The sender's tick.
+// The sender's tick, which the tally has counted.
 fn send(e: Ends, mut w: Way) -> Way
-    ensures { λ r. ⌜ r ≡ sentBy e w (sent e w) ⌝ }
+    ensures { λ r. ⌜ r ≡ sentBy e w (sending (w .sender) (e .ready) (e .broken) (e .send)) ⌝ }
 {
     if 0 < w.sender.frame.place {
         return framed(e, w);
@@ -177,7 +203,7 @@ fn tune(f: Format, mut w: Way) -> Way
 }
 
 fn start(f: Format, w: Way) -> Way
-    ensures { λ r. ⌜ r ≡ heardAs w f (under f (half f) 0 0 0 false) ⌝ }
+    ensures { λ r. ⌜ r ≡ heardAs w f (under f (half f) 0 0 0 false (w .receiver .tally)) ⌝ }
 {
     let h = line::half(f);
     if h == 0 {
@@ -186,25 +212,37 @@ fn start(f: Format, w: Way) -> Way
     assemble(h - 1, 0, 0, 0, tune(f, w))
 }
 
-// The stop: the character arrives.
-fn arrive(x: bool, mut w: Way) -> Way
-    ensures { λ r. ⌜ r ≡ heardAs w (w .receiver .format) (stopLook (w .receiver .state .value) (w .receiver .state .wrong) x) ⌝ }
+// A character is held, with its stamp and the flags. Its mark as unread is `arrive`'s own: where a store of the mark stands beside these, every turn
+// of `along` copies the padding behind it byte by byte.
+fn stamped(v: u8, t: RxC, f: Faults, mut w: Way) -> Way
+    ensures { λ r. ⌜ r ≡ Parts.stamped v t f w ⌝ }
 {
-    let value = w.receiver.state.value;
-    let framing = line::or_set(!x, w.faults.framing);
-    let overrun = line::or_set(0 < w.receiver.unread, w.faults.overrun);
-    let parity = line::or_set(0 < w.receiver.state.wrong, w.faults.parity);
-    w.receiver.holding = value;
-    w.receiver.unread = 1;
-    w.faults.framing = framing;
-    w.faults.overrun = overrun;
-    w.faults.parity = parity;
-    rest(line::number(x), w)
+    let stamp = t.0;
+    w.receiver.holding = v;
+    w.receiver.stamp.0 = stamp;
+    w.faults.framing = f.framing;
+    w.faults.overrun = f.overrun;
+    w.faults.parity = f.parity;
+    w
+}
+
+// The stop: the character arrives, stamped with the tally, which has counted this tick (P4).
+fn arrive(x: bool, w: Way) -> Way
+    ensures { λ r. ⌜ r ≡ heardAs w (w .receiver .format) (stopLook (w .receiver .state .value) (w .receiver .state .wrong) x (w .receiver .tally)) ⌝ }
+{
+    let flags = Faults {
+        framing: line::or_set(!x, w.faults.framing),
+        overrun: line::or_set(0 < w.receiver.unread, w.faults.overrun),
+        parity: line::or_set(0 < w.receiver.state.wrong, w.faults.parity),
+    };
+    let mut next = stamped(w.receiver.state.value, w.receiver.tally, flags, w);
+    next.receiver.unread = 1;
+    rest(line::number(x), next)
 }
 
 // A look.
 fn look(x: bool, w: Way) -> Way
-    ensures { λ r. ⌜ r ≡ heardAs w (w .receiver .format) (lookAt (w .receiver .format) (w .receiver .state .look) (w .receiver .state .value) (w .receiver .state .wrong) x) ⌝ }
+    ensures { λ r. ⌜ r ≡ heardAs w (w .receiver .format) (lookAt (w .receiver .format) (w .receiver .state .look) (w .receiver .state .value) (w .receiver .state .wrong) x (w .receiver .tally)) ⌝ }
 {
     let g = w.receiver.format;
     let m = w.receiver.state.look;
@@ -233,9 +271,9 @@ fn look(x: bool, w: Way) -> Way
     arrive(x, w)
 }
 
-// The receiver's tick.
+// The receiver's tick, which the tally has counted.
 fn hear(e: Ends, x: bool, w: Way) -> Way
-    ensures { λ r. ⌜ r ≡ heardBy w (received e w x) ⌝ }
+    ensures { λ r. ⌜ r ≡ heardBy w (hearing (w .receiver) (e .live) (e .hear) x) ⌝ }
 {
     let live = e.live;
     if live {
@@ -264,12 +302,12 @@ fn hear(e: Ends, x: bool, w: Way) -> Way
     rest(0, w)
 }
 
-// A tick: the receiver takes what the sender sends.
+// A tick: both ends count it, and the receiver takes what the sender sends.
 pub fn tick(w: Way, e: Ends) -> Way
     ensures { λ r. ⌜ r ≡ wayTick e w ⌝ }
 {
     let x = level_now(e, w.sender);
-    hear(e, x, send(e, w))
+    hear(e, x, send(e, later(1, w)))
 }
 
 // == ticks that only count ==
@@ -391,8 +429,9 @@ fn sender_keeps(e: Ends, s: SenderHalf, p: u8) -> u16
     only(p == line::number(!(e.ready & (0 < s.full))), 65535)
 }
 
-fn sender_skipped(e: Ends, k: u16, mut s: SenderHalf) -> SenderHalf
-    ensures { λ r. ⌜ r ≡ senderSkipped e k s ⌝ }
+// What k ticks that only count move in a sender, beside its tally.
+fn sender_moved(e: Ends, k: u16, mut s: SenderHalf) -> SenderHalf
+    ensures { λ r. ⌜ r ≡ senderMoved e k s ⌝ }
 {
     if 0 < s.frame.place {
         let place = std::num::wrapping_add_u16(s.frame.place, k);
@@ -450,11 +489,11 @@ fn calm(e: Ends, w: Way) -> u16
 fn skipped(e: Ends, k: u16, mut w: Way) -> Way
     ensures { λ r. ⌜ r ≡ waySkipped e k w ⌝ }
 {
-    let sender = sender_skipped(e, k, w.sender);
+    let sender = sender_moved(e, k, w.sender);
     let countdown = lowered(w.receiver.state.countdown, k);
     w.sender = sender;
     w.receiver.state.countdown = countdown;
-    w
+    later(k, w)
 }
 
 // k of them at once.
@@ -603,25 +642,28 @@ fn leap_ticks(w: Way, q: u16) -> u16
     (w.receiver.state.countdown as u16) + (w.receiver.format.factor as u16) * q
 }
 
-// The way at that look, k ticks on.
-fn leapt(mut w: Way, q: u16, k: u16) -> Way
-    requires { ⌜ Leaps w q k ⌝ }
-    ensures { λ r. ⌜ r ≡ flyAt w (w .sender .frame .place + k) (w .receiver .state .look + q) 0 ⌝ }
+// The way at that look, so many ticks on.
+fn leapt(mut w: Way, q: u16, ticks: u16) -> Way
+    requires { ⌜ Leaps w q ticks ⌝ }
+    ensures { λ r. ⌜ r ≡ flyAt w ticks (w .receiver .state .look + q) 0 ⌝ }
 {
     let look = w.receiver.state.look + q;
     let value = so_far(w.receiver.format, w.sender.frame.character, look);
-    let place = w.sender.frame.place + k;
+    let place = w.sender.frame.place + ticks;
     w.sender.frame.place = place;
     w.receiver.state.countdown = 0;
     w.receiver.state.value = value;
     w.receiver.state.look = look;
-    w
+    later(ticks, w)
 }
 
 // Many ticks at once, of so many at most: to the last look of a frame that is followed, or those that only count. No character comes in them.
 fn advance(e: Ends, w: Way, room: u16) -> Moved
     ensures { λ r. ⌜ (r ≡ doneAtOnce e w room) × (unread (r .way) ≡ unread w) ⌝ }
 {
+    if room == 0 {
+        return Moved { way: w, ticks: 0 };
+    }
     let q = leap_looks(e, w, room);
     if 0 < q {
         let k = leap_ticks(w, q);

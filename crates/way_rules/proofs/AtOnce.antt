@@ -87,7 +87,7 @@ module _ (e : Ends) (w : Way) (room : ℕ) where
 
   -- a leap is what is done at once
   pub leap-done : (q k : ℕ) (v : Way) → q ≡ leapLooks e w room → 0 < q → w .sender .frame .character < 256 → k ≡ leapTicks w q
-      → v ≡ flyAt w (w .sender .frame .place + k) (w .receiver .state .look + q) 0 → record { way = v; ticks = k } ≡ doneAtOnce e w room
+      → v ≡ flyAt w k (w .receiver .state .look + q) 0 → record { way = v; ticks = k } ≡ doneAtOnce e w room
   unfolding atOnce
   leap-done q k v h z byte s f =
       let l = leap-is q h z in
@@ -95,7 +95,7 @@ module _ (e : Ends) (w : Way) (room : ℕ) where
       s ∙ ap (leapTicks w) h ∙ sym (ap (λ (b : Bool). cond b (leapTicks w (leapLooks e w room)) (least (wayCalm e w) room)) (ap on (sym h) ∙ lt-ltb 0 q z)) in
       ap₂ (λ (x : Way) (n : ℕ). record { way = x; ticks = n })
       (f
-      ∙ ap (λ (j : ℕ). flyAt w (w .sender .frame .place + j) (w .receiver .state .look + q) 0) s
+      ∙ ap (λ (j : ℕ). flyAt w j (w .receiver .state .look + q) 0) s
       ∙ sym (leaps e w q (l .live) byte (l .busy) (l .step) (l .ahead))
       ∙ ap (λ (j : ℕ). wayTicks e j w) (sym s ∙ once))
       once
@@ -122,6 +122,15 @@ module _ (e : Ends) (w : Way) (room : ℕ) where
 
   pub moves-by : (r : Moved) → r ≡ doneAtOnce e w room → Moves r
   moves-by r h = subst Moves (sym h) (record { in-room = within-room; way = refl })
+
+  -- with no room nothing is done
+  pub none-done : room ≡ 0 → record { way = w; ticks = 0 } ≡ doneAtOnce e w room
+  none-done z =
+      let n : 0 ≡ atOnce e w room = omega (arith, within-room) in
+      ap (λ (k : ℕ). moved k) n
+    where
+      moved : ℕ → Moved
+      moved k = record { way = wayTicks e k w; ticks = k }
 
 -- == how many looks, by the code's tests ==
 

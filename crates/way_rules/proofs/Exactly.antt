@@ -10,9 +10,11 @@ use lib.Dec.{ltb, leb, eqb}
 use borrow.Author.Tests.{ltb-true, ltb-false, lt-ltb, eqb-true, eqb-false, eq-eqb, ne-eqb}
 use Rattle.line_rules.specs.declared.Format.{Format}
 use Rattle.line_rules.specs.declared.Receiver.{Receiver}
+use Rattle.line_rules.specs.declared.RxC.{RxC}
 use Rattle.line_rules.specs.declared.Sampled.{Sampled}
 use Rattle.line_rules.specs.Sending.{bit, on, half, parityBits, frameLength, part}
 use Rattle.line_rules.specs.Receiving.{afterMark, quiet, searching, under, lookAt, sample}
+use Rattle.line_rules.specs.Clocks.{rxLater}
 use Rattle.line_rules.specs.Range.{inRange, Bounds}
 use Rattle.line_rules.proofs.Choice.{each, either}
 use Rattle.line_rules.proofs.Ranges.{in-range-bounds}
@@ -23,13 +25,13 @@ use Rattle.link_rules.specs.declared.ReceiverHalf.{ReceiverHalf}
 use Rattle.link_rules.specs.declared.Received.{Received}
 use Rattle.link_rules.specs.Transmitting.{frameNext, transmit}
 use Rattle.link_rules.specs.Hearing.{underWay, receive}
-use Rattle.link_rules.specs.Within.{holdingInRange, busyInRange, freeInRange, frameInRange, countdownInRange, valueInRange, wrongInRange, assemblyInRange, stateInRange, clear, senderInRange, receiverInRange}
+use Rattle.link_rules.specs.Within.{holdingInRange, busyInRange, freeInRange, frameInRange, countdownInRange, valueInRange, wrongInRange, assemblyInRange, stateInRange, senderInRange, receiverInRange}
 use Rattle.link_rules.proofs.AtRest.{in-range-clear}
 use Rattle.link_rules.proofs.Halves.{length-bound, frame-ends, off-leaves, receive-under, hear-state}
 use Rattle.way_rules.specs.declared.Ends.{Ends}
 use Rattle.way_rules.specs.declared.Way.{Way}
 use Rattle.way_rules.specs.Along.{sent, wayTick}
-use Rattle.way_rules.specs.Calm.{breaks, placesLeft, senderCalm, senderLevel, senderHolds, senderKeeps, senderSkipped, receiverCalm, lowered, receiverSkipped, wayCalm, waySkipped, Exactly}
+use Rattle.way_rules.specs.Calm.{breaks, placesLeft, senderCalm, senderLevel, senderHolds, senderKeeps, senderMoved, senderSkipped, receiverCalm, lowered, receiverSkipped, wayCalm, waySkipped, Exactly}
 use Rattle.way_rules.proofs.Branches.{least-above}
 use Rattle.way_rules.proofs.Ways.{skips}
 
@@ -81,7 +83,7 @@ module _ (e : Ends) (s : SenderHalf) (ok : senderInRange s ≡ true) where
   keeps-some p q = rw (eq-eqb _ _ q) holds-some
 
   sender-calm : transmit s (e .ready) (e .broken) (e .send) .half ≡ senderSkipped e 1 s → 1 ≤ senderCalm e s
-  unfolding transmit senderSkipped senderCalm
+  unfolding transmit senderSkipped senderMoved senderCalm
   sender-calm h = go (on (s .frame .place)) refl
     where
       by-full : on (s .frame .place) ≡ false → breaks e ≡ false → on (s .guard) ≡ false → (b : Bool) → (e .ready && on (s .full)) ≡ b → 1 ≤ senderCalm e s
@@ -110,65 +112,65 @@ module _ (e : Ends) (s : SenderHalf) (ok : senderInRange s ≡ true) where
 abbrev OtherLook : ℕ → Receiver → Type 0
 OtherLook m s = s .phase ≡ 2 → s .look ≡ m → ⊥
 
-look-moves : (f : Format) (m v w : ℕ) (x : Bool) → OtherLook m (lookAt f m v w x .next)
+look-moves : (f : Format) (m v w : ℕ) (x : Bool) (now : RxC) → OtherLook m (lookAt f m v w x now .next)
 unfolding part
-look-moves f zero v w true = λ p l. omega arith
-look-moves f zero v w false = λ p l. omega arith
-look-moves f (suc i) v w x =
+look-moves f zero v w true now = λ p l. omega arith
+look-moves f zero v w false now = λ p l. omega arith
+look-moves f (suc i) v w x now =
     either (λ (o : Sampled). OtherLook (suc i) (o .next)) (ltb i (f .length)) (λ p l. omega arith)
     (either (λ (o : Sampled). OtherLook (suc i) (o .next)) (ltb i (f .length + parityBits f)) (λ p l. omega arith)
     (either (OtherLook (suc i)) x (λ p l. omega arith) (λ p l. omega arith)))
 
 -- a tick that finds the countdown at 0 is a look
-under-moves : (f : Format) (c m v w : ℕ) (x : Bool) → under f c m v w x .next .phase ≡ 2 → under f c m v w x .next .look ≡ m → 1 ≤ c
-under-moves f zero m v w x p l = absurd (look-moves f m v w x p l)
-under-moves f (suc c) m v w x p l = omega arith
+under-moves : (f : Format) (c m v w : ℕ) (x : Bool) (now : RxC) → under f c m v w x now .next .phase ≡ 2 → under f c m v w x now .next .look ≡ m → 1 ≤ c
+under-moves f zero m v w x now p l = absurd (look-moves f m v w x now p l)
+under-moves f (suc c) m v w x now p l = omega arith
 
 -- a 0 begins a character, which is then under way
-under-starts : (f : Format) (c : ℕ) → under f c 0 0 0 false .next .phase ≡ 2
-under-starts f zero = refl
-under-starts f (suc c) = refl
+under-starts : (f : Format) (c : ℕ) (now : RxC) → under f c 0 0 0 false now .next .phase ≡ 2
+under-starts f zero now = refl
+under-starts f (suc c) now = refl
 
 -- one that waits is left in the phase of the level, and so is one that searches, as long as it searches
 mark-phase : (x : Bool) → afterMark x .phase ≡ bit x
 mark-phase true = refl
 mark-phase false = refl
 
-search-phase : (f : Format) (x : Bool) → cond x (quiet searching) (under f (half f) 0 0 0 false) .next .phase ≡ 1 → 1 ≡ bit x
-search-phase f true h = refl
-search-phase f false h = absurd (omega (arith, under-starts f (half f)))
+search-phase : (f : Format) (x : Bool) (now : RxC) → cond x (quiet searching) (under f (half f) 0 0 0 false now) .next .phase ≡ 1 → 1 ≡ bit x
+search-phase f true now h = refl
+search-phase f false now h = absurd (omega (arith, under-starts f (half f) now))
 
-sample-waits : (f : Format) (s : Receiver) (x : Bool) → s .phase ≡ 0 → sample f s x ≡ quiet (afterMark x)
+sample-waits : (f : Format) (s : Receiver) (x : Bool) (now : RxC) → s .phase ≡ 0 → sample f s x now ≡ quiet (afterMark x)
 unfolding sample
-sample-waits f s x p = rw (eq-eqb (s .phase) 0 p)
+sample-waits f s x now p = rw (eq-eqb (s .phase) 0 p)
 
-sample-searches : (f : Format) (s : Receiver) (x : Bool) → s .phase ≡ 1 → sample f s x ≡ cond x (quiet searching) (under f (half f) 0 0 0 false)
+sample-searches : (f : Format) (s : Receiver) (x : Bool) (now : RxC) → s .phase ≡ 1 → sample f s x now ≡ cond x (quiet searching) (under f (half f) 0 0 0 false now)
 unfolding sample
-sample-searches f s x p = rw (ne-eqb (s .phase) 0 (λ z. omega arith), eq-eqb (s .phase) 1 p)
+sample-searches f s x now p = rw (ne-eqb (s .phase) 0 (λ z. omega arith), eq-eqb (s .phase) 1 p)
 
-pub sample-under : (f : Format) (s : Receiver) (x : Bool) → s .phase ≡ 2 → sample f s x ≡ under f (s .countdown) (s .look) (s .value) (s .wrong) x
+pub sample-under : (f : Format) (s : Receiver) (x : Bool) (now : RxC) → s .phase ≡ 2 → sample f s x now ≡ under f (s .countdown) (s .look) (s .value) (s .wrong) x now
 unfolding sample
-sample-under f s x p = rw (ne-eqb (s .phase) 0 (λ z. omega arith), ne-eqb (s .phase) 1 (λ z. omega arith))
+sample-under f s x now p = rw (ne-eqb (s .phase) 0 (λ z. omega arith), ne-eqb (s .phase) 1 (λ z. omega arith))
 
-module _ (f : Format) (s : Receiver) (x : Bool) (h : sample f s x .next .phase ≡ s .phase) where
-  phase-same : (o : Sampled) → sample f s x ≡ o → o .next .phase ≡ s .phase
+module _ (f : Format) (s : Receiver) (x : Bool) (now : RxC) (h : sample f s x now .next .phase ≡ s .phase) where
+  phase-same : (o : Sampled) → sample f s x now ≡ o → o .next .phase ≡ s .phase
   phase-same o e = sym (ap (λ (q : Sampled). q .next .phase) e) ∙ h
 
   -- a character under way whose next look stays is between two looks
-  pub counts-down : sample f s x .next .look ≡ s .look → s .phase ≡ 2 → 1 ≤ s .countdown
+  pub counts-down : sample f s x now .next .look ≡ s .look → s .phase ≡ 2 → 1 ≤ s .countdown
   counts-down l p =
-      let u = sample-under f s x p in
-      under-moves f (s .countdown) (s .look) (s .value) (s .wrong) x (phase-same _ u ∙ p) (sym (ap (λ (o : Sampled). o .next .look) u) ∙ l)
+      let u = sample-under f s x now p in
+      under-moves f (s .countdown) (s .look) (s .value) (s .wrong) x now (phase-same _ u ∙ p) (sym (ap (λ (o : Sampled). o .next .look) u) ∙ l)
 
   -- a phase that stays is that of the level
   pub stays-level : s .phase < 2 → s .phase ≡ bit x
   stays-level l = go (eqb (s .phase) 0) refl
     where
       go : (b : Bool) → eqb (s .phase) 0 ≡ b → s .phase ≡ bit x
-      go true e = sym (phase-same _ (sample-waits f s x (eqb-true _ _ e))) ∙ mark-phase x
+      go true e = sym (phase-same _ (sample-waits f s x now (eqb-true _ _ e))) ∙ mark-phase x
       go false e =
           let p : s .phase ≡ 1 = omega (arith, eqb-false (s .phase) 0 e) in
-          p ∙ search-phase f x (phase-same _ (sample-searches f s x p) ∙ p)
+          p ∙ search-phase f x now (phase-same _ (sample-searches f s x now p) ∙ p)
 
 -- in range, what has no character under way is clear, and what has one is in phase 2
 module _ (r : ReceiverHalf) (ok : receiverInRange r ≡ true) where
@@ -201,6 +203,9 @@ module _ (r : ReceiverHalf) (ok : receiverInRange r ≡ true) where
     receiver-calm false f x h level = off-calm (sym (ap (λ (s : Receiver). s .phase) (off-leaves r f x .state)) ∙ ap (λ (q : ReceiverHalf). q .state .phase) h)
     receiver-calm true f x h level = go (underWay (r .state)) refl
       where
+        now : RxC
+        now = rxLater 1 (r .tally)
+
         next : receive r true f x .half .state ≡ lowered (r .state) 1
         next = ap (λ (q : ReceiverHalf). q .state) h
 
@@ -209,10 +214,10 @@ module _ (r : ReceiverHalf) (ok : receiverInRange r ≡ true) where
             let p = phase-in (ltb-true 1 (r .state .phase) u) in
             let same = receive-under r (r .format) x u ∙ sym (receive-under r f x u) in
             let step = sym (hear-state (r .format) r x (rw u)) ∙ ap (λ (o : Received). o .half .state) same ∙ next in
-            under-calm p (counts-down (r .format) (r .state) x (ap (λ (q : Receiver). q .phase) step) (ap (λ (q : Receiver). q .look) step) p)
+            under-calm p (counts-down (r .format) (r .state) x now (ap (λ (q : Receiver). q .phase) step) (ap (λ (q : Receiver). q .look) step) p)
         go false u =
             let l : r .state .phase < 2 = omega (arith, ltb-false 1 (r .state .phase) u) in
-            rest-calm l (level (stays-level f (r .state) x (ap (λ (q : Receiver). q .phase) (sym (hear-state f r x (rw u)) ∙ next)) l))
+            rest-calm l (level (stays-level f (r .state) x now (ap (λ (q : Receiver). q .phase) (sym (hear-state f r x (rw u)) ∙ next)) l))
 
 -- == the way ==
 

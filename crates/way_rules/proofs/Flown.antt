@@ -10,6 +10,7 @@ use lib.Pow.{pow-pos}
 use borrow.Author.Tests.{eqb-true, ltb-true, ltb-false, lt-ltb}
 use Rattle.line_rules.specs.declared.Format.{Format}
 use Rattle.line_rules.specs.declared.Receiver.{Receiver}
+use Rattle.line_rules.specs.declared.RxC.{RxC}
 use Rattle.line_rules.specs.Sending.{bit, on, differ, half, parityBits, frameLength, cut, parityBit, bitAt, levelOf, level, orSet}
 use Rattle.line_rules.specs.Receiving.{assembling, quiet, withBit, lookNext, sample}
 use Rattle.line_rules.specs.Sees.{Alike}
@@ -21,17 +22,19 @@ use Rattle.link_rules.specs.declared.Frame.{Frame}
 use Rattle.link_rules.specs.declared.SenderHalf.{SenderHalf}
 use Rattle.link_rules.specs.declared.ReceiverHalf.{ReceiverHalf}
 use Rattle.link_rules.specs.declared.Sent.{Sent}
-use Rattle.link_rules.specs.Parts.{withFrame}
+use Rattle.link_rules.specs.Parts.{withFrame, senderLater, receiverLater}
 use Rattle.link_rules.specs.Transmitting.{frameAt, frameTick}
 use Rattle.link_rules.specs.Hearing.{afterSample, receive}
 use Rattle.link_rules.proofs.AtRest.{quietly}
 use Rattle.link_rules.proofs.Halves.{transmit-under, receive-under}
 use Rattle.way_rules.specs.declared.Ends.{Ends}
 use Rattle.way_rules.specs.declared.Way.{Way}
+use Rattle.way_rules.specs.Parts.{withSender, withReceiver, withState}
 use Rattle.way_rules.specs.Along.{received, sentBy, heardBy, wayTick, wayTicks}
-use Rattle.way_rules.specs.Calm.{least, placesLeft, senderCalm, senderKeeps, heardCalm, wayCalm, waySkipped}
+use Rattle.way_rules.specs.Calm.{least, placesLeft, senderCalm, senderKeeps, heardCalm, wayCalm, waySkipped, wayLater}
 use Rattle.way_rules.specs.Leap.{lastLook, soFar, sameBits, bothBusy, inStep, flyAt, leapTicks, Ahead}
 use Rattle.way_rules.proofs.Branches.{least-both, least-above, least-first, least-second}
+use Rattle.way_rules.proofs.Later.{sender-later, receiver-later}
 use Rattle.way_rules.proofs.Senders.{at, within, moves, frame-is, frame-stays, skips-frame, frame-calm}
 use Rattle.way_rules.proofs.Receivers.{looks-calm}
 use Rattle.way_rules.proofs.Ways.{skips, ticks-add}
@@ -74,12 +77,12 @@ module _ (g : Format) (c : ℕ) (byte : c < 256) where
       go false e = rw e (let q : g .length ≡ 0 = omega (arith, ltb-false 0 (g .length) e) in q)
 
   -- a look that sees its bit, before the stop's, goes on to the next
-  looks-on : (m : ℕ) → m ≤ g .length + parityBits g → sample g (flown m 0) (levelOf g c m) ≡ quiet (flown (suc m) (g .factor - 1))
+  looks-on : (m : ℕ) (now : RxC) → m ≤ g .length + parityBits g → sample g (flown m 0) (levelOf g c m) now ≡ quiet (flown (suc m) (g .factor - 1))
   unfolding sample
-  looks-on zero h = ap (λ (v : ℕ). quiet (assembling (g .factor - 1) 1 v 0)) (sym none-yet)
-  looks-on (suc i) h = go (ltb i (g .length)) refl
+  looks-on zero now h = ap (λ (v : ℕ). quiet (assembling (g .factor - 1) 1 v 0)) (sym none-yet)
+  looks-on (suc i) now h = go (ltb i (g .length)) refl
     where
-      go : (t : Bool) → ltb i (g .length) ≡ t → sample g (flown (suc i) 0) (levelOf g c (suc i)) ≡ quiet (flown (suc (suc i)) (g .factor - 1))
+      go : (t : Bool) → ltb i (g .length) ≡ t → sample g (flown (suc i) 0) (levelOf g c (suc i)) now ≡ quiet (flown (suc (suc i)) (g .factor - 1))
       go true e =
           let l : i < g .length = ltb-true i (g .length) e in
           part-data g i _ _ _ l
@@ -93,9 +96,12 @@ module _ (g : Format) (c : ℕ) (byte : c < 256) where
 
 -- == the way ==
 
--- the half that flies
-abbrev flies : Way → ℕ → ℕ → ReceiverHalf
-flies w m k = flyAt w 0 m k .receiver
+-- the halves that fly, k ticks on
+abbrev sends : Way → ℕ → SenderHalf
+sends w k = flyAt w k 0 0 .sender
+
+abbrev flies : Way → ℕ → ℕ → ℕ → ReceiverHalf
+flies w k m n = flyAt w k m n .receiver
 
 module _ (e : Ends) (w : Way) (live : e .live ≡ true) (byte : w .sender .frame .character < 256) (pos : 0 < w .receiver .format .factor)
     (alike : Alike (w .sender .frame .format) (w .receiver .format)) where
@@ -108,100 +114,103 @@ module _ (e : Ends) (w : Way) (live : e .live ≡ true) (byte : w .sender .frame
   abbrev c : ℕ
   c = w .sender .frame .character
 
-  -- the places that are left after place i
+  -- the place k ticks on
+  abbrev i : ℕ → ℕ
+  i k = w .sender .frame .place + k
+
+  -- .. and the places that are left after it
   abbrev left : ℕ → ℕ
-  left i = placesLeft (frameAt (w .sender .frame) i)
+  left k = placesLeft (frameAt (w .sender .frame) (i k))
+
+  -- n more
+  sends-on : (k n : ℕ) → senderLater n (at (sends w k) (i k + n)) ≡ sends w (k + n)
+  sends-on k n =
+      sender-later n k (at (w .sender) (i k + n))
+      ∙ ap (λ (j : ℕ). senderLater (k + n) (at (w .sender) j)) (let q : i k + n ≡ i (k + n) = omega arith in q)
 
   -- up to the look
-  gap : (i m k : ℕ) → on i ≡ true → k ≤ left i → wayTicks e k (flyAt w i m k) ≡ flyAt w (i + k) m 0
+  gap : (k m n : ℕ) → on (i k) ≡ true → n ≤ left k → wayTicks e n (flyAt w k m n) ≡ flyAt w (k + n) m 0
   unfolding waySkipped wayCalm
-  gap i m zero t h = ap (λ (j : ℕ). flyAt w j m 0) (sym (add-zero i))
-  gap i m (suc k) t h =
-      sym (skips e (suc k) (flyAt w i m (suc k)) (omega arith) calm)
-      ∙ ap₂ (λ (s : SenderHalf) (n : ℕ). record { sender = s; receiver = flies w m n; empty = w .empty; faults = w .faults })
-      (skips-frame e (at (w .sender) i) (suc k) t ∙ ap (at (w .sender)) (moves (frameAt (w .sender .frame) i) k h))
-      (let q : suc k - suc k ≡ 0 = omega arith in q)
+  gap k m zero t h = ap (λ (j : ℕ). flyAt w j m 0) (sym (add-zero k))
+  gap k m (suc n) t h =
+      sym (skips e (suc n) (flyAt w k m (suc n)) (omega arith) calm)
+      ∙ ap₂ (λ (s : SenderHalf) (r : ReceiverHalf). record { sender = s; receiver = r; empty = w .empty; faults = w .faults })
+      (skips-frame e (sends w k) (suc n) t
+      ∙ ap (λ (j : ℕ). senderLater (suc n) (at (sends w k) j)) (moves (frameAt (w .sender .frame) (i k)) n h)
+      ∙ sends-on k (suc n))
+      (ap (λ (j : ℕ). receiverLater (suc n) (flies w k m j)) (let q : suc n - suc n ≡ 0 = omega arith in q) ∙ receiver-later (suc n) k (flies w 0 m 0))
     where
-      calm : suc k ≤ wayCalm e (flyAt w i m (suc k))
+      calm : suc n ≤ wayCalm e (flyAt w k m (suc n))
       calm =
-          least-above (heardCalm e (flyAt w i m (suc k))) (senderCalm e (at (w .sender) i)) (suc k)
-          (omega (arith, looks-calm (flies w m (suc k)) (e .live) (senderKeeps e (at (w .sender) i) 2) live refl))
-          (omega (arith, frame-calm e (at (w .sender) i) t))
+          least-above (heardCalm e (flyAt w k m (suc n))) (senderCalm e (sends w k)) (suc n)
+          (omega (arith, looks-calm (flies w k m (suc n)) (e .live) (senderKeeps e (sends w k) 2) live refl))
+          (omega (arith, frame-calm e (sends w k) t))
 
   -- what the look's sample brings
-  hears : (m : ℕ) → m ≤ g .length + parityBits g → receive (flies w m 0) (e .live) (e .hear) (levelOf g c m) ≡ quietly (flies w (suc m) (g .factor - 1))
-  hears m h =
-      ap (λ (b : Bool). receive (flies w m 0) b (e .hear) (levelOf g c m)) live
-      ∙ receive-under (flies w m 0) (e .hear) (levelOf g c m) refl
-      ∙ ap (afterSample (flies w m 0) g) (looks-on g c byte m h)
+  hears : (k m : ℕ) → m ≤ g .length + parityBits g → receive (flies w k m 0) (e .live) (e .hear) (levelOf g c m) ≡ quietly (flies w (k + 1) (suc m) (g .factor - 1))
+  hears k m h =
+      let r : ReceiverHalf = receiverLater 1 (flies w k m 0) in
+      ap (λ (b : Bool). receive (flies w k m 0) b (e .hear) (levelOf g c m)) live
+      ∙ receive-under (flies w k m 0) (e .hear) (levelOf g c m) refl
+      ∙ ap (afterSample r g) (looks-on g c byte m (r .tally) h)
+      ∙ ap quietly (receiver-later 1 k (flies w 0 (suc m) (g .factor - 1)))
 
   -- the look itself
-  look : (i m : ℕ) → on i ≡ true → i ≡ half g + g .factor * m → m ≤ g .length + parityBits g → 1 ≤ left i
-      → wayTick e (flyAt w i m 0) ≡ flyAt w (i + 1) (suc m) (g .factor - 1)
+  look : (k m : ℕ) → on (i k) ≡ true → i k ≡ half g + g .factor * m → m ≤ g .length + parityBits g → 1 ≤ left k
+      → wayTick e (flyAt w k m 0) ≡ flyAt w (k + 1) (suc m) (g .factor - 1)
   unfolding wayTick
-  look i m t p h l =
-      let s : SenderHalf = at (w .sender) i in
-      let sees : level f c i ≡ levelOf g c m = ap (level f c) p ∙ alike-sees f g c pos alike .looks m (omega arith) in
-      ap (λ (o : Sent). heardBy (sentBy e (flyAt w i m 0) o) (received e (flyAt w i m 0) (o .level))) (transmit-under s (e .ready) (e .broken) (e .send) t)
-      ∙ ap (λ (x : Bool). heardBy (sentBy e (flyAt w i m 0) (frameTick s (s .frame) false)) (received e (flyAt w i m 0) x)) sees
-      ∙ ap (heardBy (sentBy e (flyAt w i m 0) (frameTick s (s .frame) false))) (hears m h)
-      ∙ ap₂ (λ (q : Frame) (z : Bool). record { sender = withFrame s q; receiver = flies w (suc m) (g .factor - 1); empty = orSet (z && e .enabled) (w .empty); faults = w .faults })
+  look k m t p h l =
+      let s : SenderHalf = sends w k in
+      let now : SenderHalf = senderLater 1 s in
+      let v : Way = flyAt w k m 0 in
+      let sees : level f c (i k) ≡ levelOf g c m = ap (level f c) p ∙ alike-sees f g c pos alike .looks m (omega arith) in
+      ap (λ (o : Sent). heardBy (sentBy e v o) (received e v (o .level))) (transmit-under s (e .ready) (e .broken) (e .send) t)
+      ∙ ap (λ (x : Bool). heardBy (sentBy e v (frameTick now (s .frame) false)) (received e v x)) sees
+      ∙ ap (heardBy (sentBy e v (frameTick now (s .frame) false))) (hears k m h)
+      ∙ ap₂ (λ (q : Frame) (z : Bool). record { sender = withFrame now q; receiver = flies w (k + 1) (suc m) (g .factor - 1); empty = orSet (z && e .enabled) (w .empty); faults = w .faults })
       (frame-is s l) (frame-stays s l)
+      ∙ ap (withSender (flyAt w (k + 1) (suc m) (g .factor - 1))) (sends-on k 1)
 
   -- a whole bit
-  one-bit : (i m : ℕ) → on i ≡ true → i ≡ half g + g .factor * m → m ≤ g .length + parityBits g → g .factor ≤ left i
-      → wayTicks e (g .factor) (flyAt w i m 0) ≡ flyAt w (i + g .factor) (suc m) 0
-  one-bit i m t p h l =
-      let b = within (frameAt (w .sender .frame) i) (g .factor - 1) (omega arith) in
+  one-bit : (k m : ℕ) → on (i k) ≡ true → i k ≡ half g + g .factor * m → m ≤ g .length + parityBits g → g .factor ≤ left k
+      → wayTicks e (g .factor) (flyAt w k m 0) ≡ flyAt w (k + g .factor) (suc m) 0
+  one-bit k m t p h l =
+      let b = within (frameAt (w .sender .frame) (i k)) (g .factor - 1) (omega arith) in
       let d = least-both (frameLength f) 65536 in
-      ap (λ (k : ℕ). wayTicks e k (flyAt w i m 0)) (let q : g .factor ≡ suc (g .factor - 1) = omega arith in q)
-      ∙ ap (wayTicks e (g .factor - 1)) (look i m t p h (omega arith))
-      ∙ gap (i + 1) (suc m) (g .factor - 1) (lt-ltb 0 (i + 1) (omega arith)) (omega arith)
-      ∙ ap (λ (j : ℕ). flyAt w j (suc m) 0) (let q : i + 1 + (g .factor - 1) ≡ i + g .factor = omega arith in q)
+      ap (λ (n : ℕ). wayTicks e n (flyAt w k m 0)) (let q : g .factor ≡ suc (g .factor - 1) = omega arith in q)
+      ∙ ap (wayTicks e (g .factor - 1)) (look k m t p h (omega arith))
+      ∙ gap (k + 1) (suc m) (g .factor - 1) (lt-ltb 0 (i (k + 1)) (omega arith)) (omega arith)
+      ∙ ap (λ (j : ℕ). flyAt w j (suc m) 0) (let q : k + 1 + (g .factor - 1) ≡ k + g .factor = omega arith in q)
 
   -- q of them
-  bits : (q i m : ℕ) → on i ≡ true → i ≡ half g + g .factor * m → m + q ≤ lastLook g → g .factor * q ≤ left i
-      → wayTicks e (g .factor * q) (flyAt w i m 0) ≡ flyAt w (i + g .factor * q) (m + q) 0
-  bits zero i m t p h l =
-      ap (λ (k : ℕ). wayTicks e k (flyAt w i m 0)) (mul-zero (g .factor))
-      ∙ ap₂ (λ (j n : ℕ). flyAt w j n 0) (let r : i ≡ i + g .factor * 0 = omega arith in r) (sym (add-zero m))
-  bits (suc q) i m t p h l =
-      ap (λ (k : ℕ). wayTicks e k (flyAt w i m 0)) (let r : g .factor * suc q ≡ g .factor + g .factor * q = omega arith in r)
-      ∙ ticks-add e (g .factor) (g .factor * q) (flyAt w i m 0)
-      ∙ ap (wayTicks e (g .factor * q)) (one-bit i m t p (omega arith) (omega arith))
-      ∙ bits q (i + g .factor) (suc m) (lt-ltb 0 (i + g .factor) (omega arith)) (omega arith) (omega arith) (omega arith)
-      ∙ ap₂ (λ (j n : ℕ). flyAt w j n 0) (let r : i + g .factor + g .factor * q ≡ i + g .factor * suc q = omega arith in r) (let r : suc m + q ≡ m + suc q = omega arith in r)
+  bits : (q k m : ℕ) → on (i k) ≡ true → i k ≡ half g + g .factor * m → m + q ≤ lastLook g → g .factor * q ≤ left k
+      → wayTicks e (g .factor * q) (flyAt w k m 0) ≡ flyAt w (k + g .factor * q) (m + q) 0
+  bits zero k m t p h l =
+      ap (λ (n : ℕ). wayTicks e n (flyAt w k m 0)) (mul-zero (g .factor))
+      ∙ ap₂ (λ (j n : ℕ). flyAt w j n 0) (let r : k ≡ k + g .factor * 0 = omega arith in r) (sym (add-zero m))
+  bits (suc q) k m t p h l =
+      ap (λ (n : ℕ). wayTicks e n (flyAt w k m 0)) (let r : g .factor * suc q ≡ g .factor + g .factor * q = omega arith in r)
+      ∙ ticks-add e (g .factor) (g .factor * q) (flyAt w k m 0)
+      ∙ ap (wayTicks e (g .factor * q)) (one-bit k m t p (omega arith) (omega arith))
+      ∙ bits q (k + g .factor) (suc m) (lt-ltb 0 (i (k + g .factor)) (omega arith)) (omega arith) (omega arith) (omega arith)
+      ∙ ap₂ (λ (j n : ℕ). flyAt w j n 0) (let r : k + g .factor + g .factor * q ≡ k + g .factor * suc q = omega arith in r) (let r : suc m + q ≡ m + suc q = omega arith in r)
 
 -- == the leap ==
 
--- a way whose receiver has a character under way, no wrong parity and the bits so far
-pub flies-as : (w : Way) (i m k v : ℕ) → w .receiver .state .phase ≡ 2 → w .receiver .state .wrong ≡ 0 → v ≡ soFar (w .receiver .format) (w .sender .frame .character) m
-    → record {
-      sender = at (w .sender) i;
-      receiver = record {
-        state = record { phase = w .receiver .state .phase; countdown = k; value = v; wrong = w .receiver .state .wrong; look = m };
-        format = w .receiver .format;
-        holding = w .receiver .holding;
-        unread = w .receiver .unread;
-      };
+-- a way k ticks on whose receiver has a character under way, no wrong parity and the bits so far
+pub flies-as : (w : Way) (k m n v : ℕ) → w .receiver .state .phase ≡ 2 → w .receiver .state .wrong ≡ 0 → v ≡ soFar (w .receiver .format) (w .sender .frame .character) m
+    → wayLater k
+    (record {
+      sender = at (w .sender) (w .sender .frame .place + k);
+      receiver = withState (record { phase = w .receiver .state .phase; countdown = n; value = v; wrong = w .receiver .state .wrong; look = m }) (w .receiver .format) (w .receiver);
       empty = w .empty;
       faults = w .faults;
-    }
-    ≡ flyAt w i m k
-flies-as w i m k v p z e =
-    let W : ℕ → ℕ → ℕ → Way = λ n x y.
-    record {
-      sender = at (w .sender) i;
-      receiver = record {
-        state = record { phase = n; countdown = k; value = x; wrong = y; look = m };
-        format = w .receiver .format;
-        holding = w .receiver .holding;
-        unread = w .receiver .unread;
-      };
-      empty = w .empty;
-      faults = w .faults;
-    } in
-    ap (λ (n : ℕ). W n v (w .receiver .state .wrong)) p
+    })
+    ≡ flyAt w k m n
+flies-as w k m n v p z e =
+    let W : ℕ → ℕ → ℕ → Way = λ a x y.
+    withReceiver (flyAt w k m n) (receiverLater k (withState (record { phase = a; countdown = n; value = x; wrong = y; look = m }) (w .receiver .format) (w .receiver))) in
+    ap (λ (a : ℕ). W a v (w .receiver .state .wrong)) p
     ∙ ap (λ (x : ℕ). W 2 x (w .receiver .state .wrong)) e
     ∙ ap (W 2 (soFar (w .receiver .format) (w .sender .frame .character) m)) z
 
@@ -221,11 +230,12 @@ step-parts w h =
     let z = both (sameBits (w .sender .frame .format) (w .receiver .format)) placed (y .0) in
     record { same-bits = z .0; place = eqb-true _ _ (z .1); wrong = eqb-true _ _ (y .1); value = eqb-true _ _ (x .1) }
 
-in-step-is : (w : Way) → bothBusy w ≡ true → inStep w ≡ true → w ≡ flyAt w (w .sender .frame .place) (w .receiver .state .look) (w .receiver .state .countdown)
+in-step-is : (w : Way) → bothBusy w ≡ true → inStep w ≡ true → w ≡ flyAt w 0 (w .receiver .state .look) (w .receiver .state .countdown)
 in-step-is w b h =
     let s = step-parts w h in
     let p = both (on (w .sender .frame .place)) (eqb (w .receiver .state .phase) 2) b in
-    flies-as w (w .sender .frame .place) (w .receiver .state .look) (w .receiver .state .countdown) (w .receiver .state .value) (eqb-true (w .receiver .state .phase) 2 (p .1)) (s .wrong) (s .value)
+    ap (λ (i : ℕ). withSender w (at (w .sender) i)) (sym (add-zero (w .sender .frame .place)))
+    ∙ flies-as w 0 (w .receiver .state .look) (w .receiver .state .countdown) (w .receiver .state .value) (eqb-true (w .receiver .state .phase) 2 (p .1)) (s .wrong) (s .value)
 
 alike-is : (f g : Format) → sameBits f g ≡ true → Alike f g
 alike-is f g h =
@@ -237,19 +247,19 @@ alike-is f g h =
 -- to the look q after the next
 pub leaps : (e : Ends) (w : Way) (q : ℕ) → e .live ≡ true → w .sender .frame .character < 256 → bothBusy w ≡ true → inStep w ≡ true
     → Ahead w (placesLeft (w .sender .frame)) q
-    → wayTicks e (leapTicks w q) w ≡ flyAt w (w .sender .frame .place + leapTicks w q) (w .receiver .state .look + q) 0
+    → wayTicks e (leapTicks w q) w ≡ flyAt w (leapTicks w q) (w .receiver .state .look + q) 0
 leaps e w q live byte busy step a =
     let i : ℕ = w .sender .frame .place in
-    let k : ℕ = w .receiver .state .countdown in
+    let n : ℕ = w .receiver .state .countdown in
     let m : ℕ = w .receiver .state .look in
     let F : ℕ = w .receiver .format .factor in
     let t = both (on i) (eqb (w .receiver .state .phase) 2) busy .0 in
     let d = least-both (frameLength (w .sender .frame .format)) 65536 in
     ap (wayTicks e (leapTicks w q)) (in-step-is w busy step)
-    ∙ ticks-add e k (F * q) (flyAt w i m k)
-    ∙ ap (wayTicks e (F * q)) (gap e w live byte (a .some) alike i m k t (omega (arith, a .ticks)))
-    ∙ bits e w live byte (a .some) alike q (i + k) m (lt-ltb 0 (i + k) (omega (arith, ltb-true 0 i t))) placed (a .looks) (omega (arith, a .ticks))
-    ∙ ap (λ (j : ℕ). flyAt w j (m + q) 0) (let r : i + k + F * q ≡ i + (k + F * q) = omega arith in r)
+    ∙ ticks-add e n (F * q) (flyAt w 0 m n)
+    ∙ ap (wayTicks e (F * q)) (gap e w live byte (a .some) alike 0 m n (lt-ltb 0 (i + 0) (omega (arith, ltb-true 0 i t))) (omega (arith, a .ticks)))
+    ∙ bits e w live byte (a .some) alike q (0 + n) m (lt-ltb 0 (i + (0 + n)) (omega (arith, ltb-true 0 i t))) (omega (arith, placed)) (a .looks) (omega (arith, a .ticks))
+    ∙ ap (λ (j : ℕ). flyAt w j (m + q) 0) (let r : 0 + n + F * q ≡ n + F * q = omega arith in r)
   where
     alike : Alike (w .sender .frame .format) (w .receiver .format)
     alike = alike-is _ _ (step-parts w step .same-bits)

@@ -15,12 +15,13 @@ use Rattle.line_rules.proofs.Table.{both}
 use Rattle.link_rules.specs.declared.Frame.{Frame}
 use Rattle.link_rules.specs.declared.SenderHalf.{SenderHalf}
 use Rattle.link_rules.specs.declared.Sent.{Sent}
-use Rattle.link_rules.specs.Parts.{noFrame, withFrame, withGuard}
+use Rattle.link_rules.specs.Parts.{noFrame, withFrame, withGuard, senderLater}
 use Rattle.link_rules.specs.Transmitting.{nextPlace, frameAt, frameNext, frameTick, breakTick, markTick, transmit}
 use Rattle.link_rules.proofs.Halves.{transmit-under}
 use Rattle.way_rules.specs.declared.Ends.{Ends}
-use Rattle.way_rules.specs.Calm.{endless, breaks, placesLeft, senderCalm, stopping, bitLeft, senderLevel, senderHolds, senderKeeps, senderSkipped}
+use Rattle.way_rules.specs.Calm.{endless, breaks, placesLeft, senderCalm, stopping, bitLeft, senderLevel, senderHolds, senderKeeps, senderMoved, senderSkipped}
 use Rattle.way_rules.proofs.Branches.{Least, least-both}
+use Rattle.way_rules.proofs.Later.{sender-next}
 
 -- a count that is not 0
 pub endless-so : (t : Bool) → 1 ≤ endless t → t ≡ true
@@ -70,16 +71,16 @@ module _ (s : SenderHalf) (h : 1 ≤ placesLeft (s .frame)) where
 -- == what skipping is, and what is sent, by what the sender does ==
 
 module _ (e : Ends) (s : SenderHalf) where
-  pub skips-frame : (k : ℕ) → on (s .frame .place) ≡ true → senderSkipped e k s ≡ at s ((s .frame .place + k) % 65536)
-  unfolding senderSkipped
+  pub skips-frame : (k : ℕ) → on (s .frame .place) ≡ true → senderSkipped e k s ≡ senderLater k (at s ((s .frame .place + k) % 65536))
+  unfolding senderSkipped senderMoved
   skips-frame k t = rw t
 
-  skips-break : (k : ℕ) → on (s .frame .place) ≡ false → breaks e ≡ true → senderSkipped e k s ≡ s
-  unfolding senderSkipped
+  skips-break : (k : ℕ) → on (s .frame .place) ≡ false → breaks e ≡ true → senderSkipped e k s ≡ senderLater k s
+  unfolding senderSkipped senderMoved
   skips-break k t b = rw (t, b)
 
-  skips-mark : (k : ℕ) → on (s .frame .place) ≡ false → breaks e ≡ false → senderSkipped e k s ≡ withGuard s (s .guard - k)
-  unfolding senderSkipped
+  skips-mark : (k : ℕ) → on (s .frame .place) ≡ false → breaks e ≡ false → senderSkipped e k s ≡ senderLater k (withGuard s (s .guard - k))
+  unfolding senderSkipped senderMoved
   skips-mark k t b = rw (t, b)
 
   pub frame-calm : on (s .frame .place) ≡ true → senderCalm e s ≡ placesLeft (s .frame)
@@ -109,15 +110,15 @@ module _ (e : Ends) (s : SenderHalf) where
   frame-level : on (s .frame .place) ≡ true → senderLevel e s ≡ level (s .frame .format) (s .frame .character) (s .frame .place)
   frame-level t = ap (λ (o : Sent). o .level) (transmit-under s (e .ready) (e .broken) (e .send) t)
 
-  pub break-tick : on (s .frame .place) ≡ false → breaks e ≡ true → transmit s (e .ready) (e .broken) (e .send) ≡ breakTick s (e .send)
+  pub break-tick : on (s .frame .place) ≡ false → breaks e ≡ true → transmit s (e .ready) (e .broken) (e .send) ≡ breakTick (senderLater 1 s) (e .send)
   unfolding transmit
   break-tick t b = rw (t, b)
 
-  pub guard-tick : on (s .frame .place) ≡ false → breaks e ≡ false → on (s .guard) ≡ true → transmit s (e .ready) (e .broken) (e .send) ≡ markTick s
+  pub guard-tick : on (s .frame .place) ≡ false → breaks e ≡ false → on (s .guard) ≡ true → transmit s (e .ready) (e .broken) (e .send) ≡ markTick (senderLater 1 s)
   unfolding transmit
   guard-tick t b g = rw (t, b, g)
 
-  pub rest-tick : on (s .frame .place) ≡ false → breaks e ≡ false → on (s .guard) ≡ false → (e .ready && on (s .full)) ≡ false → transmit s (e .ready) (e .broken) (e .send) ≡ markTick s
+  pub rest-tick : on (s .frame .place) ≡ false → breaks e ≡ false → on (s .guard) ≡ false → (e .ready && on (s .full)) ≡ false → transmit s (e .ready) (e .broken) (e .send) ≡ markTick (senderLater 1 s)
   unfolding transmit
   rest-tick t b g w = rw (t, b, g, w)
 
@@ -151,7 +152,7 @@ pub record Counted (e : Ends) (s : SenderHalf) (o : Sent) : Type 0 where
   pub drained : o .drained ≡ false
 
 module _ (e : Ends) (s : SenderHalf) where
-  mark-counts : on (s .frame .place) ≡ false → breaks e ≡ false → Counted e s (markTick s)
+  mark-counts : on (s .frame .place) ≡ false → breaks e ≡ false → Counted e s (markTick (senderLater 1 s))
   mark-counts t b = record { half = sym (skips-mark e s 1 t b); drained = refl }
 
   pub sender-counts : 1 ≤ senderCalm e s → Counted e s (transmit s (e .ready) (e .broken) (e .send))
@@ -160,10 +161,10 @@ module _ (e : Ends) (s : SenderHalf) where
       (λ t p.
       rw (transmit-under s (e .ready) (e .broken) (e .send) t)
       (record {
-        half = ap (withFrame s) (frame-is s p) ∙ sym (skips-frame e s 1 t ∙ ap (at s) (moves (s .frame) 0 p));
+        half = ap (withFrame (senderLater 1 s)) (frame-is s p) ∙ sym (skips-frame e s 1 t ∙ ap (λ (j : ℕ). senderLater 1 (at s j)) (moves (s .frame) 0 p));
         drained = frame-stays s p;
       }))
-      (λ t b g. rw (break-tick e s t b) (record { half = ap (withGuard s) (sym g) ∙ sym (skips-break e s 1 t b); drained = refl }))
+      (λ t b g. rw (break-tick e s t b) (record { half = ap (withGuard (senderLater 1 s)) (sym g) ∙ sym (skips-break e s 1 t b); drained = refl }))
       (λ t b g. rw (guard-tick e s t b g) (mark-counts t b))
       (λ t b g w. rw (rest-tick e s t b g w) (mark-counts t b))
 
@@ -204,13 +205,13 @@ guard-ticks : (e : Ends) (s : SenderHalf) → on (s .frame .place) ≡ false →
 guard-ticks e s t b g = go (on (s .guard - 1)) refl
   where
     go : (x : Bool) → on (s .guard - 1) ≡ x → senderHolds e s ≤ suc (senderHolds e (senderSkipped e 1 s))
-    go true q = omega (arith, guard-holds e s t b g, ap (senderHolds e) (skips-mark e s 1 t b) ∙ guard-holds e (withGuard s (s .guard - 1)) t b q)
+    go true q = omega (arith, guard-holds e s t b g, ap (senderHolds e) (skips-mark e s 1 t b) ∙ guard-holds e (senderLater 1 (withGuard s (s .guard - 1))) t b q)
     go false q = omega (arith, guard-holds e s t b g, ltb-false 0 (s .guard - 1) q)
 
 guard-levels : (e : Ends) (s : SenderHalf) → on (s .frame .place) ≡ false → breaks e ≡ false → on (s .guard) ≡ true → 2 ≤ s .guard → senderLevel e (senderSkipped e 1 s) ≡ senderLevel e s
 guard-levels e s t b g h =
     ap (senderLevel e) (skips-mark e s 1 t b)
-    ∙ ap (λ (o : Sent). o .level) (guard-tick e (withGuard s (s .guard - 1)) t b (lt-ltb 0 (s .guard - 1) (omega arith)))
+    ∙ ap (λ (o : Sent). o .level) (guard-tick e (senderLater 1 (withGuard s (s .guard - 1))) t b (lt-ltb 0 (s .guard - 1) (omega arith)))
     ∙ sym (ap (λ (o : Sent). o .level) (guard-tick e s t b g))
 
 -- what stays for some ticks stays for one less
@@ -222,19 +223,32 @@ level-again p x y m n h l = go (ltb 1 m) refl
     go false q = either (λ (k : ℕ). k ≤ suc (cond (eqb p (bit y)) n 0)) (eqb p (bit x)) (omega (arith, ltb-false 1 m q)) (omega arith)
 
 -- a guard that falls, or has none to fall by
-guard-left : (e : Ends) (s : SenderHalf) → on (s .frame .place) ≡ false → breaks e ≡ false → s .guard ≤ suc (senderCalm e (withGuard s (s .guard - 1)))
+guard-left : (e : Ends) (s : SenderHalf) → on (s .frame .place) ≡ false → breaks e ≡ false → s .guard ≤ suc (senderCalm e (senderLater 1 (withGuard s (s .guard - 1))))
 guard-left e s t b = go (on (s .guard - 1)) refl
   where
-    go : (x : Bool) → on (s .guard - 1) ≡ x → s .guard ≤ suc (senderCalm e (withGuard s (s .guard - 1)))
-    go true g = omega (arith, guard-calm e (withGuard s (s .guard - 1)) t b g)
+    go : (x : Bool) → on (s .guard - 1) ≡ x → s .guard ≤ suc (senderCalm e (senderLater 1 (withGuard s (s .guard - 1))))
+    go true g = omega (arith, guard-calm e (senderLater 1 (withGuard s (s .guard - 1))) t b g)
     go false g = omega (arith, ltb-false 0 (s .guard - 1) g)
 
 module _ (e : Ends) (s : SenderHalf) where
   pub unguarded : on (s .guard) ≡ false → withGuard s (s .guard - 1) ≡ s
   unguarded g = ap (withGuard s) (let q : s .guard - 1 ≡ s .guard = omega (arith, ltb-false 0 (s .guard) g) in q)
 
-  moved : 1 ≤ placesLeft (s .frame) → on (s .frame .place) ≡ true → senderSkipped e 1 s ≡ at s (s .frame .place + 1)
-  moved p t = skips-frame e s 1 t ∙ ap (at s) (moves (s .frame) 0 p)
+  moved : 1 ≤ placesLeft (s .frame) → on (s .frame .place) ≡ true → senderSkipped e 1 s ≡ senderLater 1 (at s (s .frame .place + 1))
+  moved p t = skips-frame e s 1 t ∙ ap (λ (j : ℕ). senderLater 1 (at s j)) (moves (s .frame) 0 p)
+
+  -- at rest only the tally moves
+  rested : on (s .frame .place) ≡ false → breaks e ≡ false → on (s .guard) ≡ false → senderSkipped e 1 s ≡ senderLater 1 s
+  rested t b g = skips-mark e s 1 t b ∙ ap (senderLater 1) (unguarded g)
+
+  -- how long it is calm, and its level lasts, does not go by the tally
+  calm-later : senderCalm e (senderLater 1 s) ≡ senderCalm e s
+  unfolding senderCalm
+  calm-later = refl
+
+  holds-later : senderHolds e (senderLater 1 s) ≡ senderHolds e s
+  unfolding senderHolds
+  holds-later = refl
 
   under-way : on (s .frame .place + 1) ≡ true
   under-way = lt-ltb 0 (s .frame .place + 1) (omega arith)
@@ -245,32 +259,35 @@ module _ (e : Ends) (s : SenderHalf) where
       by-sender e s h
       (λ t p.
       let a = frame-calm e s t in
-      let q = ap (senderCalm e) (moved p t) ∙ frame-calm e (at s (s .frame .place + 1)) under-way in
+      let q = ap (senderCalm e) (moved p t) ∙ frame-calm e (senderLater 1 (at s (s .frame .place + 1))) under-way in
       omega (arith, a, q))
-      (λ t b g. omega (arith, ap (senderCalm e) (skips-break e s 1 t b)))
+      (λ t b g. omega (arith, ap (senderCalm e) (skips-break e s 1 t b), calm-later))
       (λ t b g. omega (arith, guard-calm e s t b g, ap (senderCalm e) (skips-mark e s 1 t b), guard-left e s t b))
-      (λ t b g w. omega (arith, ap (senderCalm e) (skips-mark e s 1 t b ∙ unguarded g)))
+      (λ t b g w. omega (arith, ap (senderCalm e) (rested t b g), calm-later))
 
   -- .. and so does its level
   pub holds-again : 1 ≤ senderCalm e s → Held e s
   holds-again h =
       by-sender e s h
       (λ t p. frame-held t p)
-      (λ t b g. same-held (skips-break e s 1 t b))
+      (λ t b g. same-held (skips-break e s 1 t b) false (ap sends (break-tick e s t b)) (ap sends (break-tick e (senderLater 1 s) t b)))
       (λ t b g. guard-held t b g)
-      (λ t b g w. same-held (skips-mark e s 1 t b ∙ unguarded g))
+      (λ t b g w. same-held (rested t b g) true (ap sends (rest-tick e s t b g w)) (ap sends (rest-tick e (senderLater 1 s) t b g w)))
     where
-      same-held : senderSkipped e 1 s ≡ s → Held e s
-      same-held q = record { ticks = omega (arith, ap (senderHolds e) q); level = λ l. ap (senderLevel e) q }
+      sends : Sent → Bool
+      sends o = o .level
+
+      same-held : senderSkipped e 1 s ≡ senderLater 1 s → (x : Bool) → senderLevel e s ≡ x → senderLevel e (senderLater 1 s) ≡ x → Held e s
+      same-held q x a b = record { ticks = omega (arith, ap (senderHolds e) q, holds-later); level = λ l. ap (senderLevel e) q ∙ b ∙ sym a }
 
       frame-held : on (s .frame .place) ≡ true → 1 ≤ placesLeft (s .frame) → Held e s
       frame-held t p =
           let b = bit-on (s .frame .format .factor) (s .frame .place) in
           record {
-            ticks = omega (arith, b .ticks, frame-holds e s t, ap (senderHolds e) (moved p t) ∙ frame-holds e (at s (s .frame .place + 1)) under-way);
+            ticks = omega (arith, b .ticks, frame-holds e s t, ap (senderHolds e) (moved p t) ∙ frame-holds e (senderLater 1 (at s (s .frame .place + 1))) under-way);
             level = λ l.
                 ap (senderLevel e) (moved p t)
-                ∙ frame-level e (at s (s .frame .place + 1)) under-way
+                ∙ frame-level e (senderLater 1 (at s (s .frame .place + 1))) under-way
                 ∙ ap (levelOf (s .frame .format) (s .frame .character)) (b .number (omega (arith, frame-holds e s t)))
                 ∙ sym (frame-level e s t);
           }
@@ -285,8 +302,9 @@ module _ (e : Ends) (s : SenderHalf) where
   mark-then : (k : ℕ) → on (s .frame .place) ≡ false → breaks e ≡ false → senderSkipped e k (senderSkipped e 1 s) ≡ senderSkipped e (suc k) s
   mark-then k t b =
       ap (senderSkipped e k) (skips-mark e s 1 t b)
-      ∙ skips-mark e (withGuard s (s .guard - 1)) k t b
-      ∙ ap (withGuard s) (let q : s .guard - 1 - k ≡ s .guard - suc k = omega arith in q)
+      ∙ skips-mark e (senderLater 1 (withGuard s (s .guard - 1))) k t b
+      ∙ ap (λ (g : ℕ). senderLater k (senderLater 1 (withGuard s g))) (let q : s .guard - 1 - k ≡ s .guard - suc k = omega arith in q)
+      ∙ sender-next k (withGuard s (s .guard - suc k))
       ∙ sym (skips-mark e s (suc k) t b)
 
   -- k ticks after the first are k + 1
@@ -298,10 +316,11 @@ module _ (e : Ends) (s : SenderHalf) where
       let w = within (s .frame) k l in
       let q : s .frame .place + 1 + k ≡ s .frame .place + suc k = omega arith in
       ap (senderSkipped e k) (moved p t)
-      ∙ skips-frame e (at s (s .frame .place + 1)) k under-way
-      ∙ ap (λ (j : ℕ). at s (j % 65536)) q
+      ∙ skips-frame e (senderLater 1 (at s (s .frame .place + 1))) k under-way
+      ∙ ap (λ (j : ℕ). senderLater k (senderLater 1 (at s (j % 65536)))) q
+      ∙ sender-next k (at s ((s .frame .place + suc k) % 65536))
       ∙ sym (skips-frame e s (suc k) t))
-      (λ t b g. ap (senderSkipped e k) (skips-break e s 1 t b) ∙ skips-break e s k t b ∙ sym (skips-break e s (suc k) t b))
+      (λ t b g. ap (senderSkipped e k) (skips-break e s 1 t b) ∙ skips-break e (senderLater 1 s) k t b ∙ sender-next k s ∙ sym (skips-break e s (suc k) t b))
       (λ t b g. mark-then k t b)
       (λ t b g w. mark-then k t b)
 

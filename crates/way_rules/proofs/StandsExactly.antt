@@ -1,4 +1,5 @@
--- A way that a tick leaves as it is stands, where its receiver is in range: with `way-stands`, the ways that stand are those that no tick changes.
+-- A way that a tick leaves as it is, but for the tallies, stands, where its receiver is in range: with `way-stands`, the ways that stand are those that
+-- no tick changes otherwise.
 -- Assumes nothing.
 use Prim.Native.Nat.{ℕ, zero, suc, _+_, _-_, _%_, _≤_, _<_}
 use native.Mathlib.Omega.{arith}
@@ -8,8 +9,10 @@ use lib.Dec.{ltb}
 use borrow.Author.Tests.{ltb-true, ltb-false, eq-eqb}
 use Rattle.line_rules.specs.declared.Format.{Format}
 use Rattle.line_rules.specs.declared.Receiver.{Receiver}
+use Rattle.line_rules.specs.declared.RxC.{RxC}
 use Rattle.line_rules.specs.declared.Sampled.{Sampled}
 use Rattle.line_rules.specs.Sending.{on, frameLength}
+use Rattle.line_rules.specs.Clocks.{rxLater}
 use Rattle.line_rules.specs.Receiving.{under, sample}
 use Rattle.line_rules.proofs.Choice.{either, all}
 use Rattle.line_rules.proofs.Table.{both}
@@ -18,6 +21,7 @@ use Rattle.link_rules.specs.declared.SenderHalf.{SenderHalf}
 use Rattle.link_rules.specs.declared.ReceiverHalf.{ReceiverHalf}
 use Rattle.link_rules.specs.declared.Received.{Received}
 use Rattle.link_rules.specs.declared.Sent.{Sent}
+use Rattle.link_rules.specs.Parts.{senderLater, receiverLater}
 use Rattle.link_rules.specs.Transmitting.{nextPlace, frameNext, transmit}
 use Rattle.link_rules.specs.Hearing.{underWay, receive}
 use Rattle.link_rules.specs.Within.{receiverInRange}
@@ -26,7 +30,7 @@ use Rattle.link_rules.proofs.Halves.{off-leaves, receive-under, hear-state}
 use Rattle.way_rules.specs.declared.Ends.{Ends}
 use Rattle.way_rules.specs.declared.Way.{Way}
 use Rattle.way_rules.specs.Along.{sent, wayTick}
-use Rattle.way_rules.specs.Calm.{breaks, senderStands, receiverStands, wayStands}
+use Rattle.way_rules.specs.Calm.{breaks, senderStands, receiverStands, wayStands, wayLater}
 use Rattle.way_rules.proofs.Exactly.{sample-under, counts-down, stays-level, phase-in}
 use Rattle.way_rules.proofs.Standing.{sender-stands}
 
@@ -44,7 +48,7 @@ abbrev Standing : Ends → SenderHalf → Type 0
 Standing e s = senderStands s (e .ready) (e .broken) (e .send .factor) ≡ true
 
 -- no frame is under way; a break makes the guard F, any other guard falls, and a character that may start leaves its register
-sender-unchanged : (e : Ends) (s : SenderHalf) → transmit s (e .ready) (e .broken) (e .send) .half ≡ s → Standing e s
+sender-unchanged : (e : Ends) (s : SenderHalf) → transmit s (e .ready) (e .broken) (e .send) .half ≡ senderLater 1 s → Standing e s
 unfolding transmit
 sender-unchanged e s h = go (on (s .frame .place)) refl
   where
@@ -73,24 +77,27 @@ sender-unchanged e s h = go (on (s .frame .place)) refl
 -- == the receiver ==
 
 -- a tick between two looks lowers the countdown
-under-lowers : (f : Format) (c m v w : ℕ) (x : Bool) → 1 ≤ c → under f c m v w x .next .countdown ≡ c → ⊥
-under-lowers f zero m v w x l e = omega arith
-under-lowers f (suc c) m v w x l e = omega arith
+under-lowers : (f : Format) (c m v w : ℕ) (x : Bool) (now : RxC) → 1 ≤ c → under f c m v w x now .next .countdown ≡ c → ⊥
+under-lowers f zero m v w x now l e = omega arith
+under-lowers f (suc c) m v w x now l e = omega arith
 
 -- a character under way is never left as it is
-under-changes : (f : Format) (s : Receiver) (x : Bool) → s .phase ≡ 2 → sample f s x .next ≡ s → ⊥
-under-changes f s x p h =
-    under-lowers f (s .countdown) (s .look) (s .value) (s .wrong) x
-    (counts-down f s x (ap (λ (q : Receiver). q .phase) h) (ap (λ (q : Receiver). q .look) h) p)
-    (sym (ap (λ (o : Sampled). o .next .countdown) (sample-under f s x p)) ∙ ap (λ (q : Receiver). q .countdown) h)
+under-changes : (f : Format) (s : Receiver) (x : Bool) (now : RxC) → s .phase ≡ 2 → sample f s x now .next ≡ s → ⊥
+under-changes f s x now p h =
+    under-lowers f (s .countdown) (s .look) (s .value) (s .wrong) x now
+    (counts-down f s x now (ap (λ (q : Receiver). q .phase) h) (ap (λ (q : Receiver). q .look) h) p)
+    (sym (ap (λ (o : Sampled). o .next .countdown) (sample-under f s x now p)) ∙ ap (λ (q : Receiver). q .countdown) h)
 
 -- off it waits, on it is in the phase of the level, and in range it has no more than that
-receiver-unchanged : (r : ReceiverHalf) → receiverInRange r ≡ true → (live : Bool) (f : Format) (x : Bool) → receive r live f x .half ≡ r → receiverStands r live x ≡ true
+receiver-unchanged : (r : ReceiverHalf) → receiverInRange r ≡ true → (live : Bool) (f : Format) (x : Bool) → receive r live f x .half ≡ receiverLater 1 r → receiverStands r live x ≡ true
 receiver-unchanged r ok false f x h =
     let p : 0 ≡ r .state .phase = sym (ap (λ (s : Receiver). s .phase) (off-leaves r f x .state)) ∙ ap (λ (q : ReceiverHalf). q .state .phase) h in
     all (in-range-clear r ok (omega arith)) (eq-eqb (r .state .phase) 0 (sym p))
 receiver-unchanged r ok true f x h = go (underWay (r .state)) refl
   where
+    now : RxC
+    now = rxLater 1 (r .tally)
+
     next : receive r true f x .half .state ≡ r .state
     next = ap (λ (q : ReceiverHalf). q .state) h
 
@@ -98,15 +105,15 @@ receiver-unchanged r ok true f x h = go (underWay (r .state)) refl
     go true u =
         let same = receive-under r (r .format) x u ∙ sym (receive-under r f x u) in
         let step = sym (hear-state (r .format) r x (rw u)) ∙ ap (λ (o : Received). o .half .state) same ∙ next in
-        absurd (under-changes (r .format) (r .state) x (phase-in r ok (ltb-true 1 (r .state .phase) u)) step)
+        absurd (under-changes (r .format) (r .state) x now (phase-in r ok (ltb-true 1 (r .state .phase) u)) step)
     go false u =
         let l : r .state .phase < 2 = omega (arith, ltb-false 1 (r .state .phase) u) in
-        all (in-range-clear r ok l) (eq-eqb _ _ (stays-level f (r .state) x (ap (λ (q : Receiver). q .phase) (sym (hear-state f r x (rw u)) ∙ next)) l))
+        all (in-range-clear r ok l) (eq-eqb _ _ (stays-level f (r .state) x now (ap (λ (q : Receiver). q .phase) (sym (hear-state f r x (rw u)) ∙ next)) l))
 
 -- == the way ==
 
 -- a sender that stands sends the level of its break or of its rest, and the receiver stands on that
-pub unchanged-stands : (e : Ends) (w : Way) → receiverInRange (w .receiver) ≡ true → wayTick e w ≡ w → wayStands e w ≡ true
+pub unchanged-stands : (e : Ends) (w : Way) → receiverInRange (w .receiver) ≡ true → wayTick e w ≡ wayLater 1 w → wayStands e w ≡ true
 unfolding wayTick wayStands
 unchanged-stands e w ok h =
     let s = sender-unchanged e (w .sender) (ap (λ (q : Way). q .sender) h) in

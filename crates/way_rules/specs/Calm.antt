@@ -1,6 +1,6 @@
 -- Ticks of a way that only count: a frame holds each level for F ticks, a receiver looks once in F, a guard runs down and a break holds its level,
--- so that most ticks move a place, a countdown or a guard by one and nothing else; many of those can be done at once. Document 01, "Sending, by transmit
--- ticks" and "Receiving, by receive ticks"; request P9.
+-- so that most ticks move a place, a countdown or a guard by one, and the tallies, and nothing else; many of those can be done at once. Document 01,
+-- "Sending, by transmit ticks" and "Receiving, by receive ticks"; requests P9 and P4.
 -- Assumes nothing.
 use Prim.Native.Nat.{ℕ, suc, _+_, _-_, _%_, _≤_}
 use mathlib.Core.Path.{_≡_}
@@ -12,11 +12,12 @@ use Rattle.line_rules.specs.Sending.{bit, on, frameLength}
 use Rattle.link_rules.specs.declared.Frame.{Frame}
 use Rattle.link_rules.specs.declared.SenderHalf.{SenderHalf}
 use Rattle.link_rules.specs.declared.ReceiverHalf.{ReceiverHalf}
-use Rattle.link_rules.specs.Parts.{withFrame, withGuard}
+use Rattle.link_rules.specs.Parts.{withFrame, withGuard, senderLater, receiverLater}
 use Rattle.link_rules.specs.Transmitting.{frameAt, transmit}
 use Rattle.link_rules.specs.Within.{clear}
 use Rattle.way_rules.specs.declared.Ends.{Ends}
 use Rattle.way_rules.specs.declared.Way.{Way}
+use Rattle.way_rules.specs.Parts.{withState}
 use Rattle.way_rules.specs.Along.{wayTick}
 
 abbrev pub least : ℕ → ℕ → ℕ
@@ -64,11 +65,15 @@ senderHolds e s = cond (on (s .frame .place)) (bitLeft (s .frame .format) (s .fr
 unfoldable pub senderKeeps : Ends → SenderHalf → ℕ → ℕ
 senderKeeps e s p = cond (eqb p (bit (senderLevel e s))) (senderHolds e s) 0
 
--- what k ticks that only count leave of it
-unfoldable pub senderSkipped : Ends → ℕ → SenderHalf → SenderHalf
-senderSkipped e k s =
+-- what k ticks that only count move in it, beside the tally
+unfoldable pub senderMoved : Ends → ℕ → SenderHalf → SenderHalf
+senderMoved e k s =
     cond (on (s .frame .place)) (withFrame s (frameAt (s .frame) ((s .frame .place + k) % 65536)))
     (cond (breaks e) s (withGuard s (s .guard - k)))
+
+-- .. and what they leave of it: the tally counts every one, in a break and at rest too (P4)
+unfoldable pub senderSkipped : Ends → ℕ → SenderHalf → SenderHalf
+senderSkipped e k s = senderLater k (senderMoved e k s)
 
 -- == the receiver ==
 
@@ -84,9 +89,9 @@ receiverCalm r live keeps =
 abbrev pub lowered : Receiver → ℕ → Receiver
 lowered s k = record { phase = s .phase; countdown = s .countdown - k; value = s .value; wrong = s .wrong; look = s .look }
 
--- what k ticks that only count leave of it; the countdown of one that is not under way is 0
+-- what k ticks that only count leave of it: the tally counts them (P4); the countdown of one that is not under way is 0
 abbrev pub receiverSkipped : ℕ → ReceiverHalf → ReceiverHalf
-receiverSkipped k r = record { state = lowered (r .state) k; format = r .format; holding = r .holding; unread = r .unread }
+receiverSkipped k r = receiverLater k (withState (lowered (r .state) k) (r .format) r)
 
 -- == the way ==
 
@@ -105,7 +110,11 @@ wayCalm e w = least (heardCalm e w) (senderCalm e (w .sender))
 unfoldable pub waySkipped : Ends → ℕ → Way → Way
 waySkipped e k w = record { sender = senderSkipped e k (w .sender); receiver = receiverSkipped k (w .receiver); empty = w .empty; faults = w .faults }
 
--- == a way that stands: its ticks do not even count ==
+-- == a way that stands: its ticks count in the tallies, and nowhere else ==
+
+-- the same way with both tallies n ticks on (P4)
+abbrev pub wayLater : ℕ → Way → Way
+wayLater n w = record { sender = senderLater n (w .sender); receiver = receiverLater n (w .receiver); empty = w .empty; faults = w .faults }
 
 -- at rest with nothing that may start, or in a break whose guard stands
 abbrev pub senderStands : SenderHalf → Bool → Bool → ℕ → Bool

@@ -1,5 +1,5 @@
 -- A receiver in step with a frame: the place of the frame and the character so far say where it is, so that whole bits can be passed at once.
--- Its looks take the bits of the frame's own character, and each is F ticks after the one before: document 01, "Receiving, by receive ticks"; request P9.
+-- Its looks take the bits of the frame's own character, and each is F ticks after the one before: document 01, "Receiving, by receive ticks"; requests P9 and P4.
 -- Assumes nothing.
 use Prim.Native.Nat.{ℕ, suc, _+_, _*_, _-_, _^_, _/_, _%_, _≤_, _<_}
 use mathlib.Core.Path.{_≡_}
@@ -8,11 +8,12 @@ use lib.Dec.{leb, eqb}
 use Rattle.line_rules.specs.declared.Format.{Format}
 use Rattle.line_rules.specs.Sending.{on, half, parityBits}
 use Rattle.line_rules.specs.Receiving.{assembling}
-use Rattle.link_rules.specs.Parts.{withFrame}
+use Rattle.link_rules.specs.Parts.{withFrame, senderLater, receiverLater}
 use Rattle.link_rules.specs.Transmitting.{frameAt}
 use Rattle.way_rules.specs.declared.Ends.{Ends}
 use Rattle.way_rules.specs.declared.Way.{Way}
 use Rattle.way_rules.specs.declared.Moved.{Moved}
+use Rattle.way_rules.specs.Parts.{withState}
 use Rattle.way_rules.specs.Along.{wayTicks}
 use Rattle.way_rules.specs.Calm.{least, placesLeft, wayCalm}
 
@@ -40,17 +41,12 @@ inStep w =
     && eqb (w .receiver .state .wrong) 0
     && eqb (w .receiver .state .value) (soFar (w .receiver .format) (w .sender .frame .character) (w .receiver .state .look))
 
--- the way with its frame at place i and its receiver c ticks before look number m
+-- the way k ticks on, in its frame and in both tallies, with its receiver c ticks before look number m
 abbrev pub flyAt : Way → ℕ → ℕ → ℕ → Way
-flyAt w i m c =
+flyAt w k m c =
     record {
-      sender = withFrame (w .sender) (frameAt (w .sender .frame) i);
-      receiver = record {
-        state = assembling c m (soFar (w .receiver .format) (w .sender .frame .character) m) 0;
-        format = w .receiver .format;
-        holding = w .receiver .holding;
-        unread = w .receiver .unread;
-      };
+      sender = senderLater k (withFrame (w .sender) (frameAt (w .sender .frame) (w .sender .frame .place + k)));
+      receiver = receiverLater k (withState (assembling c m (soFar (w .receiver .format) (w .sender .frame .character) m) 0) (w .receiver .format) (w .receiver));
       empty = w .empty;
       faults = w .faults;
     }

@@ -174,10 +174,11 @@ impl Board {
 fn on_channel(room: &mut [Lent], channel: u8, call: ChipCall) -> Result<Vec<u8>, u8> {
     let lent = room.get_mut(usize::from(channel)).ok_or(NO_SUCH_PORT)?;
     let (refusal, answer) = lent.call(&call);
+    let bytes = |numbers: &[u32]| numbers.iter().map(|&number| number as u8).collect();
     match call {
         _ if refusal != 0 => Err(refusal),
-        ChipCall::Read(_) => Ok(answer[1..].to_vec()),
-        ChipCall::Transmit | ChipCall::Outputs => Ok(answer),
+        ChipCall::Read(_) => Ok(bytes(&answer[1..])),
+        ChipCall::Transmit | ChipCall::Outputs => Ok(bytes(&answer)),
         _ => Ok(NO_VALUE.to_vec()),
     }
 }

@@ -7,9 +7,9 @@ use crate::shorten::{smaller_bytes, smaller_levels};
 use std::fmt;
 
 /// The bytes of a device in C's layout (docs/RANGES.md).
-pub const DEVICE_BYTES: usize = 44;
+pub const DEVICE_BYTES: usize = 64;
 /// The bytes between fields, which the driver shows as 00.
-const PADDING: [usize; 3] = [23, 37, 43];
+pub const PADDING: [usize; 7] = [23, 45, 46, 47, 61, 62, 63];
 
 #[derive(Clone, Copy, Debug, PartialEq, Eq)]
 pub enum Call {
@@ -24,12 +24,37 @@ pub enum Call {
     Tick(u8),
     Peek,
     InRange,
+    // The tallies of both clocks, and what each stamped (P4 of the change requests).
+    Stamp,
+    Start,
+    TransmitTally,
+    ReceiveTally,
 }
 
 impl Call {
-    pub const NAMES: [&'static str; 10] = [
-        "reset", "read", "write", "pins", "transmit", "receive", "outputs", "tick", "peek",
+    pub const NAMES: [&'static str; 14] = [
+        "reset",
+        "read",
+        "write",
+        "pins",
+        "transmit",
+        "receive",
+        "outputs",
+        "tick",
+        "peek",
         "in_range",
+        "stamp",
+        "start",
+        "transmit_tally",
+        "receive_tally",
+    ];
+
+    /// Those that show a tally, or what it stamped.
+    pub const OF_TALLIES: [Call; 4] = [
+        Call::Stamp,
+        Call::Start,
+        Call::TransmitTally,
+        Call::ReceiveTally,
     ];
 
     pub fn name(&self) -> &'static str {
@@ -44,6 +69,10 @@ impl Call {
             Call::Tick(_) => 7,
             Call::Peek => 8,
             Call::InRange => 9,
+            Call::Stamp => 10,
+            Call::Start => 11,
+            Call::TransmitTally => 12,
+            Call::ReceiveTally => 13,
         };
         Call::NAMES[place]
     }
@@ -51,10 +80,11 @@ impl Call {
     /// Whether it looks at the device and leaves it.
     fn only_looks(&self) -> bool {
         matches!(self, Call::Outputs | Call::Peek | Call::InRange)
+            || Call::OF_TALLIES.contains(self)
     }
 
     /// The refusal, and the numbers that the driver answers.
-    pub fn make(&self, chip: &mut Chip) -> (u8, Vec<u8>) {
+    pub fn make(&self, chip: &mut Chip) -> (u8, Vec<u32>) {
         let refusal = match *self {
             Call::Reset => {
                 chip.reset();
@@ -62,22 +92,26 @@ impl Call {
             }
             Call::Read(address) => {
                 let (refusal, value) = chip.read(address);
-                return (refusal, vec![refusal, value]);
+                return (refusal, vec![refusal.into(), value.into()]);
             }
             Call::Write(address, value) => chip.write(address, value),
             Call::Pins([dsr, dcd, cts]) => chip.set_pins(dsr, dcd, cts),
-            Call::Transmit => return (0, vec![chip.transmit()]),
+            Call::Transmit => return (0, vec![chip.transmit().into()]),
             Call::Receive(level) => chip.receive(level),
-            Call::Outputs => return (0, chip.outputs().to_vec()),
+            Call::Outputs => return (0, chip.outputs().map(u32::from).to_vec()),
             Call::Tick(level) => {
                 let (refusal, sent) = chip.tick(level);
-                return (refusal, vec![refusal, sent]);
+                return (refusal, vec![refusal.into(), sent.into()]);
             }
-            Call::Peek => return (0, vec![chip.peek()]),
+            Call::Peek => return (0, vec![chip.peek().into()]),
+            Call::Stamp => return (0, vec![chip.stamp()]),
+            Call::Start => return (0, vec![chip.start()]),
+            Call::TransmitTally => return (0, vec![chip.transmit_tally()]),
+            Call::ReceiveTally => return (0, vec![chip.receive_tally()]),
             // A chip of the model is always in range.
             Call::InRange => return (0, vec![1]),
         };
-        (refusal, vec![refusal])
+        (refusal, vec![refusal.into()])
     }
 
     /// The call with one number smaller.
@@ -90,8 +124,7 @@ impl Call {
                 .map(|value| Call::Write(address, value))
                 .collect(),
             Call::Pins(levels) => smaller_levels(levels).map(Call::Pins).collect(),
-            Call::Reset | Call::Transmit => Vec::new(),
-            Call::Outputs | Call::Peek | Call::InRange => Vec::new(),
+            _ => Vec::new(),
         }
     }
 }
@@ -106,8 +139,7 @@ impl fmt::Display for Call {
             }
             Call::Write(address, value) => write!(f, " {address} {value}"),
             Call::Pins([dsr, dcd, cts]) => write!(f, " {dsr} {dcd} {cts}"),
-            Call::Reset | Call::Transmit => Ok(()),
-            Call::Outputs | Call::Peek | Call::InRange => Ok(()),
+            _ => Ok(()),
         }
     }
 }
@@ -117,7 +149,7 @@ impl fmt::Display for Call {
 pub enum Garbage {
     AllOnes,
     Random,
-    /// A device just reset but for one byte.
+    /// A device just reset but for one byte, and its tallies and stamps, which are any.
     OneByte,
 }
 
@@ -137,7 +169,8 @@ impl Garbage {
 #[derive(Clone, Copy, Debug, PartialEq, Eq)]
 pub enum Line {
     Call(Call),
-    Device(Garbage, [u8; DEVICE_BYTES]),
+    /// The bytes of the device, and what they are where they are none in range.
+    Device(Option<Garbage>, [u8; DEVICE_BYTES]),
     Bytes,
 }
 
@@ -184,6 +217,14 @@ impl Lent {
         }
     }
 
+    /// The device with its tallies at 0; one out of range as it is.
+    pub fn untallied(&self) -> Lent {
+        match self {
+            Lent::InRange(chip) => Lent::InRange(chip.untallied()),
+            Lent::OutOfRange(bytes) => Lent::OutOfRange(*bytes),
+        }
+    }
+
     /// What a line answers.
     pub fn answer(&mut self, line: &Line) -> String {
         match line {
@@ -226,7 +267,7 @@ impl Lent {
 
     /// The refusal, and the numbers answered. A refused call hands bytes out of
     /// range back as given, and so does one that only looks.
-    pub fn call(&mut self, call: &Call) -> (u8, Vec<u8>) {
+    pub fn call(&mut self, call: &Call) -> (u8, Vec<u32>) {
         match self {
             Lent::InRange(chip) => call.make(chip),
             Lent::OutOfRange(..) if *call == Call::InRange => (0, vec![0]),

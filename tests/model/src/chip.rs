@@ -4,13 +4,14 @@
 //! The sender holds the levels that are left of the frame under way, and the
 //! receiver the samples of the character under way, so both lean on the frame
 //! and the reading of the crate's root. The sections named are those of
-//! document 01; P1 is that request of document 02, the change requests. `bytes`
+//! document 01; P1 and P4 are those requests of document 02, the change requests. `bytes`
 //! has the chip as the bytes that a host lends, `view` what an onlooker sees of it.
 
 mod bytes;
 mod view;
 
-pub use bytes::format_bytes;
+pub use bytes::{format_bytes, number, set_number};
+pub use bytes::{RECEIVE_TALLY, STAMP, START, TRANSMIT_TALLY};
 pub use view::View;
 
 use crate::{character_at, frame, Character, Format};
@@ -70,11 +71,19 @@ pub struct Chip {
     /// The format and the character of that frame, which are among its bytes.
     begun: Option<(Format, u8)>,
     guard: u32,
+    /// Transmit ticks since reset, modulo 2^32, and how many they were behind the first
+    /// one of the last frame (P4); so it is 0 while there was none.
+    transmit_tally: u32,
+    start: u32,
 
     receiver: Receiver,
     /// The character RHR holds or last held, and whether it is unread.
     held: u8,
     unread: bool,
+    /// Receive ticks since reset, modulo 2^32, and how many they were behind that of the
+    /// stop sample of the character held (P4).
+    receive_tally: u32,
+    stamp: u32,
 
     framing: bool,
     overrun: bool,
@@ -123,9 +132,13 @@ impl Chip {
             sending: VecDeque::new(),
             begun: None,
             guard: 0,
+            transmit_tally: 0,
+            start: 0,
             receiver: Receiver::Waiting,
             held: 0,
             unread: false,
+            receive_tally: 0,
+            stamp: 0,
             framing: false,
             overrun: false,
             parity: false,
@@ -239,6 +252,8 @@ impl Chip {
 
     /// The level that a transmit tick sends ("Sending").
     pub fn transmit(&mut self) -> u8 {
+        // P4: every tick counts, whatever it does.
+        self.transmit_tally = self.transmit_tally.wrapping_add(1);
         if self.sending.is_empty() && self.commanded(TRANSMIT) && self.cts == 0 {
             if let Some(format) = self.format(INTERNAL_TRANSMIT_CLOCK) {
                 if self.commanded(BREAK) {
@@ -249,6 +264,7 @@ impl Chip {
                     if let Some(character) = self.waiting.take() {
                         self.sending = frame(&format, character).into();
                         self.begun = Some((format, character));
+                        self.start = self.transmit_tally;
                     }
                 }
             }
@@ -276,6 +292,8 @@ impl Chip {
         if level > 1 {
             return NO_SUCH_LEVEL;
         }
+        // P4: a tick that is done counts, though nothing may be heard.
+        self.receive_tally = self.receive_tally.wrapping_add(1);
         let level = level == 1;
         let Some(now) = self.heard_format() else {
             self.receiver = Receiver::Waiting;
@@ -322,6 +340,7 @@ impl Chip {
         self.framing |= character.framing;
         self.held = character.value;
         self.unread = true;
+        self.stamp = self.receive_tally;
         self.receiver = if character.framing {
             Receiver::Waiting
         } else {
@@ -350,6 +369,33 @@ impl Chip {
     /// Status bit 1 as a read would show it: RHR holds an unread character.
     pub fn holds_unread(&self) -> bool {
         self.status() & 2 != 0
+    }
+
+    /// The stamp of the character that a read of address 0 gives (P4).
+    pub fn stamp(&self) -> u32 {
+        self.stamp
+    }
+
+    /// The stamp of the last frame's first tick.
+    pub fn start(&self) -> u32 {
+        self.start
+    }
+
+    pub fn transmit_tally(&self) -> u32 {
+        self.transmit_tally
+    }
+
+    pub fn receive_tally(&self) -> u32 {
+        self.receive_tally
+    }
+
+    /// The chip with its tallies at 0, for those who look for what else a tick moves.
+    pub fn untallied(&self) -> Chip {
+        Chip {
+            transmit_tally: 0,
+            receive_tally: 0,
+            ..self.clone()
+        }
     }
 
     /// SYN1, SYN2 and DLE, which no call of the chip itself reads.
@@ -386,6 +432,10 @@ impl Chip {
             waiting: self.waiting.is_some(),
             sending: !self.sending.is_empty(),
             guard: self.guard,
+            transmit_tally: self.transmit_tally,
+            start: self.start,
+            receive_tally: self.receive_tally,
+            stamp: self.stamp,
             frame: self.begun.map(|(format, _)| {
                 let length = format.frame_length() as usize;
                 (format, length - self.sending.len())

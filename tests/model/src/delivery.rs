@@ -1,11 +1,12 @@
 //! Demand 3 from the text of a session and its answer alone, for each way by
 //! itself: when a sender may write, at which joined tick each character comes,
-//! what is read, that no flag is seen ("Receiving"), and when a wait for a character
-//! ends. Also what the registers alone tell: the lines that are refused, and reads of
+//! what is read, with which stamp, that no flag is seen ("Receiving"), and when a wait
+//! for a character ends. Also what the registers alone tell: the lines that are refused, and reads of
 //! them.
 //!
 //! Nothing here leans on the model's chip. The sections named are those of
-//! document 01; waits are those of P12 of document 02, the change requests.
+//! document 01; stamps and waits are those of P4 and P12 of document 02, the change
+//! requests.
 
 pub mod reached;
 pub mod side;
@@ -17,11 +18,12 @@ use std::str::Lines;
 use way::Way;
 
 /// A line of a session: its number, its record or its refusal, the value that it
-/// read, its joined ticks, and both sides before it and after it.
+/// read, with the stamp where that is a character, its joined ticks, and both sides before it and after it.
 pub struct Call {
     line: usize,
     record: Result<Record, u8>,
     value: u8,
+    stamp: u32,
     ticks: u16,
     before: [Side; 2],
     after: [Side; 2],
@@ -45,6 +47,16 @@ impl Call {
         Err(format!(
             "line {} reads {}, which must be {value} under a mask of {bits}",
             self.line, self.value
+        ))
+    }
+
+    fn must_have_stamp(&self, stamp: u32) -> Result<(), String> {
+        if self.stamp == stamp {
+            return Ok(());
+        }
+        Err(format!(
+            "line {} reads a stamp of {}, which must be {stamp}",
+            self.line, self.stamp
         ))
     }
 }
@@ -98,7 +110,7 @@ fn call(
     answer: &mut Lines,
 ) -> Result<Call, String> {
     let record = record.and_then(|record| accepted(record, &before));
-    let number = answered(line, record, answer)?;
+    let (number, stamp) = answered(line, record, answer)?;
     let (value, ticks) = match record {
         Ok(Record::JoinedTicks(count)) => (0, count),
         Ok(Record::Wait(..)) => (0, number),
@@ -116,6 +128,7 @@ fn call(
         line,
         record,
         value,
+        stamp,
         ticks,
         before,
         after,
@@ -123,24 +136,34 @@ fn call(
     call.must_show(told).map(|()| call)
 }
 
-/// What a read reads, and what a wait spends; 0 of any other line. Only a refusal is
-/// answered too.
-fn answered(line: usize, record: Result<Record, u8>, answer: &mut Lines) -> Result<u16, String> {
+/// What a read reads, and what a wait spends, and behind a read of address 0 the stamp;
+/// 0 of any other line. Only a refusal is answered too.
+fn answered(
+    line: usize,
+    record: Result<Record, u8>,
+    answer: &mut Lines,
+) -> Result<(u16, u32), String> {
     let missing = |what: &str| format!("line {line} is not answered with {what:?}");
     let (begins, most) = match record {
         Ok(Record::Read(unit, address)) => (format!("R\t{unit:?}\t{address}\t"), 255),
         Ok(Record::Wait(unit, limit)) => (format!("B\t{unit:?}\t"), limit),
-        Ok(_) => return Ok(0),
+        Ok(_) => return Ok((0, 0)),
         Err(number) => {
             let refusal = format!("E\t{line}\t{number}");
             let is_there = answer.next() == Some(&refusal);
-            return is_there.then_some(0).ok_or_else(|| missing(&refusal));
+            return is_there.then_some((0, 0)).ok_or_else(|| missing(&refusal));
         }
     };
-    let number = answer.next().and_then(|text| text.strip_prefix(&begins));
-    let number = number.and_then(|number| number.parse().ok());
-    let number = number.filter(|&number| u32::from(number) <= most);
-    number.ok_or_else(|| missing(&begins))
+    let rest = answer.next().and_then(|text| text.strip_prefix(&begins));
+    let fields: Vec<&str> = rest.map_or(Vec::new(), |rest| rest.split('\t').collect());
+    let is_stamped = matches!(record, Ok(Record::Read(_, 0)));
+    let numbers = match fields[..] {
+        [number] if !is_stamped => number.parse().ok().zip(Some(0)),
+        [number, stamp] if is_stamped => number.parse().ok().zip(stamp.parse().ok()),
+        _ => None,
+    };
+    let numbers = numbers.filter(|&(number, _): &(u16, u32)| u32::from(number) <= most);
+    numbers.ok_or_else(|| missing(&begins))
 }
 
 fn accepted(record: Record, sides: &[Side; 2]) -> Result<Record, u8> {
@@ -263,6 +286,11 @@ fn done(
         return Err(format!("line {} is not allowed on the way", call.line));
     }
     call.must_show(way.shows(record))?;
+    if let Record::Read(unit, 0) = record {
+        if unit == way.to() {
+            call.must_have_stamp(way.stamp())?;
+        }
+    }
     let reached = reached::by_call(way, record, call, previous);
     way.take(record);
     Ok(reached)

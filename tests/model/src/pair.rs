@@ -11,7 +11,7 @@ pub mod reach;
 
 use crate::calls::{Call as ChipCall, Lent};
 use crate::chip::{joined_tick, Chip};
-use crate::session::Unit;
+use crate::session::{Unit, UNITS};
 use crate::wait::wait;
 
 /// The most joined ticks of a run.
@@ -32,7 +32,7 @@ pub enum Call {
 }
 
 /// The refusal, and the numbers that the driver answers.
-pub type Answer = (u8, Vec<u16>);
+pub type Answer = (u8, Vec<u32>);
 
 /// The unit that a wait names: 0 is a, any other number b.
 pub fn named(number: u32) -> Unit {
@@ -97,6 +97,14 @@ impl Pair {
         })
     }
 
+    /// Whether a joined tick moves nothing but the tallies.
+    pub fn stands(&self) -> bool {
+        let mut after = self.clone();
+        after.tick();
+        let untallied = |pair: &Pair| UNITS.map(|unit| pair.end(unit).untallied());
+        untallied(&after) == untallied(self)
+    }
+
     pub fn call(&mut self, call: &Call) -> Answer {
         match *call {
             Call::Tick => {
@@ -108,13 +116,10 @@ impl Pair {
                 (refusal, vec![refusal.into()])
             }
             Call::Wait(number, limit) => match self.wait(named(number), limit) {
-                Ok(spent) => (0, vec![0, spent]),
+                Ok(spent) => (0, vec![0, spent.into()]),
                 Err(refusal) => (refusal, vec![refusal.into(), 0]),
             },
-            Call::On(unit, call) => {
-                let (refusal, numbers) = self.end_mut(unit).call(&call);
-                (refusal, numbers.into_iter().map(u16::from).collect())
-            }
+            Call::On(unit, call) => self.end_mut(unit).call(&call),
         }
     }
 }

@@ -1,5 +1,6 @@
 //! The ranges of a device's fields (docs/RANGES.md), by the bytes of the struct
-//! that a host lends, a number of two bytes with its low byte first.
+//! that a host lends, a number of two bytes with its low byte first. Any number is in range
+//! in the tallies and stamps.
 
 use crate::calls::DEVICE_BYTES;
 use crate::Format;
@@ -8,8 +9,8 @@ pub fn in_range(bytes: &[u8; DEVICE_BYTES]) -> bool {
     registers_in_range(&bytes[0..9])
         && levels_in_range(&bytes[9..12])
         && sender_in_range(&bytes[12..23])
-        && receiver_in_range(&bytes[24..37])
-        && levels_in_range(&bytes[38..43])
+        && receiver_in_range(&bytes[32..45])
+        && levels_in_range(&bytes[56..61])
 }
 
 fn levels_in_range(bytes: &[u8]) -> bool {

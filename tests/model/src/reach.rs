@@ -1,18 +1,22 @@
 //! What the random runs reached, counted by name on the model's chips, and for
 //! demand 3 by the sessions' text and answers (`delivery`). A run in which one of
-//! its names stays at 0 has not tested what it is for; of a wait each name has to be
-//! reached often, and `waits` has those of a session's lines.
+//! its names stays at 0 has not tested what it is for; of a wait and of a stamp each name
+//! has to be reached often: `waits` has those of a session's lines, `stamps` follows a
+//! chip's tallies.
 
+mod stamps;
 mod waits;
 
-use crate::calls::{Call, Garbage, Lent, Line};
-use crate::chip::{decode, Chip, View, RECEIVE, RESET_ERROR};
+use crate::calls::{Call, Garbage, Lent, Line, DEVICE_BYTES};
+use crate::chip::{decode, number, Chip, View, RECEIVE, RESET_ERROR};
 use crate::chip::{INTERNAL_RECEIVE_CLOCK, INTERNAL_TRANSMIT_CLOCK};
+use crate::chip::{RECEIVE_TALLY, STAMP, START, TRANSMIT_TALLY};
 use crate::counts::{seldom, Counts};
 use crate::delivery::reached;
 use crate::generate::{accepted_mode, ACCEPTED_MODES};
 use crate::session::{act_wait, lines, Bench, Pair, Record, Unit};
 use crate::Format;
+use stamps::{saw_behind, Refused, Watch};
 use std::process::ExitCode;
 
 // The error flags in the status ("Registers").
@@ -105,8 +109,8 @@ pub struct Reach {
     /// The values of mode 1 that a frame was sent with, and a character received.
     sent: [bool; 256],
     received: [bool; 256],
-    /// Of waits, which only sessions have.
-    waits: Counts,
+    /// What has to be reached often: of stamps, and of waits, which only sessions have.
+    often: Counts,
 }
 
 impl Reach {
@@ -114,7 +118,9 @@ impl Reach {
         let names = OF_SESSIONS.into_iter().chain(reached::NAMES);
         let longest = LONGEST.iter().map(|(how, _)| longest(how));
         let mut reach = Reach::of(names.map(String::from).chain(longest).collect());
-        waits::name(&mut reach.waits);
+        waits::name(&mut reach.often);
+        stamps::name(&mut reach.often);
+        stamps::name_of_sessions(&mut reach.often);
         reach
     }
 
@@ -124,8 +130,12 @@ impl Reach {
         for garbage in Garbage::ALL {
             names.extend(Call::NAMES.map(|call| on_garbage(garbage, call)));
             names.push(on_garbage(garbage, REFUSED));
+            names.extend(Call::OF_TALLIES.map(|call| not_its_own(garbage, call.name())));
         }
-        Reach::of(names)
+        let mut reach = Reach::of(names);
+        stamps::name(&mut reach.often);
+        stamps::name_of_hosts(&mut reach.often);
+        reach
     }
 
     fn of(further: Vec<String>) -> Reach {
@@ -134,14 +144,14 @@ impl Reach {
             counts: names.map(|name| (name, 0)).collect(),
             sent: [false; 256],
             received: [false; 256],
-            waits: Counts::default(),
+            often: Counts::default(),
         }
     }
 
     fn count(&mut self, name: &str) {
         match self.counts.iter_mut().find(|(known, _)| known == name) {
             Some((_, count)) => *count += 1,
-            None => self.waits.count(name),
+            None => self.often.count(name),
         }
     }
 
@@ -154,7 +164,7 @@ impl Reach {
             self.sent[value] |= other.sent[value];
             self.received[value] |= other.received[value];
         }
-        self.waits.join(&other.waits);
+        self.often.join(&other.often);
     }
 
     /// A line for each count, and whether all was reached.
@@ -176,12 +186,12 @@ impl Reach {
             text += &format!("{name}: {count}{note}\n");
             whole &= *count > 0;
         }
-        let (waits, often) = self.waits.report();
-        (text + &waits, whole && often)
+        let (others, often) = self.often.report();
+        (text + &others, whole && often)
     }
 
     pub fn conclude(&self) -> ExitCode {
-        let missing = format!("not reached, or of a wait {}", seldom());
+        let missing = format!("not reached, or of a wait or a stamp {}", seldom());
         conclude(self.report(), &missing)
     }
 
@@ -306,7 +316,7 @@ impl Reach {
         if input.last().is_some_and(|&byte| byte != b'\n') {
             self.count("missing last newline");
         }
-        waits::watch_lines(&mut self.waits, input);
+        waits::watch_lines(&mut self.often, input);
         for line in String::from_utf8_lossy(answer).lines() {
             if let ["E", _, number] = line.split('\t').collect::<Vec<_>>()[..] {
                 self.count(&format!("refusal {number}"));
@@ -333,59 +343,131 @@ impl Reach {
     pub fn run(&mut self, lines: &[Line]) {
         let mut lent = Lent::InRange(Chip::just_reset());
         let mut garbage = None;
+        let mut watch = Watch::default();
+        let mut refused = None;
         for line in lines {
             if let Line::Call(call) = line {
                 let before = lent.view();
+                let own = garbage.map(|_| lent.bytes());
                 let (refusal, answer) = lent.call(call);
                 self.count(call.name());
                 if *call == Call::InRange && answer == [0] {
                     self.count("out of range seen");
                 }
-                self.called(call, refusal, &before, &lent.view());
-                if let Some(garbage) = garbage {
-                    self.called_first(garbage, call, refusal);
+                let arrived = self.called(call, refusal, &before, &lent.view());
+                if let (Some(garbage), Some(own)) = (garbage, own) {
+                    self.called_first(garbage, call, refusal, &own);
                 }
+                refused = self.tallied(
+                    &mut watch,
+                    call,
+                    refusal,
+                    refused,
+                    [&before, &lent.view()],
+                    arrived,
+                );
             } else {
                 lent.answer(line);
+                if let Line::Device(..) = line {
+                    watch.set();
+                    refused = None;
+                }
             }
             garbage = match line {
-                Line::Device(garbage, _) => Some(*garbage),
+                Line::Device(garbage, _) => *garbage,
                 _ => None,
             };
         }
     }
 
     /// The first call on a device out of range.
-    fn called_first(&mut self, garbage: Garbage, call: &Call, refusal: u8) {
+    fn called_first(
+        &mut self,
+        garbage: Garbage,
+        call: &Call,
+        refusal: u8,
+        own: &[u8; DEVICE_BYTES],
+    ) {
         self.count(&on_garbage(garbage, call.name()));
+        let place = match call {
+            Call::Stamp => Some(STAMP),
+            Call::Start => Some(START),
+            Call::TransmitTally => Some(TRANSMIT_TALLY),
+            Call::ReceiveTally => Some(RECEIVE_TALLY),
+            _ => None,
+        };
+        if place.is_some_and(|place| number(own, place) != 0) {
+            self.count(&not_its_own(garbage, call.name()));
+        }
         if refusal != 0 {
             self.count(&on_garbage(garbage, REFUSED));
         }
     }
 
-    fn called(&mut self, call: &Call, refusal: u8, before: &View, after: &View) {
+    /// What the tallies of a call's chip are, before it and behind it, and what it shows
+    /// of them. What is refused from now on, for the look behind it.
+    fn tallied(
+        &mut self,
+        watch: &mut Watch,
+        call: &Call,
+        refusal: u8,
+        refused: Option<Refused>,
+        [before, after]: [&View; 2],
+        arrived: bool,
+    ) -> Option<Refused> {
+        let counts = &mut self.often;
+        match *call {
+            Call::Receive(_) if refusal != 0 => return Some(Refused::Receive),
+            Call::Tick(_) if refusal != 0 => return Some(Refused::Both),
+            _ if refusal != 0 => {}
+            Call::Reset => watch.reset(before),
+            Call::Read(0) => watch.read(),
+            Call::Write(3, _) => watch.commanded(before, after),
+            Call::Transmit => watch.transmitted(before, after),
+            Call::Receive(_) => watch.received(before, after, arrived),
+            Call::Tick(_) => {
+                watch.received(before, after, arrived);
+                watch.transmitted(before, after);
+            }
+            Call::Stamp => watch.looked_at_stamp(counts, after),
+            Call::Start => watch.saw_start(counts, after),
+            Call::TransmitTally => watch.saw_transmit_tally(counts, after),
+            Call::ReceiveTally => watch.saw_receive_tally(counts),
+            _ => {}
+        }
+        match (call, refused) {
+            (Call::ReceiveTally, Some(refused)) => saw_behind(counts, refused),
+            (Call::TransmitTally | Call::Stamp, refused) => return refused,
+            _ => {}
+        }
+        None
+    }
+
+    /// Whether a character arrived.
+    fn called(&mut self, call: &Call, refusal: u8, before: &View, after: &View) -> bool {
         if refusal != 0 {
             if let Call::Tick(_) = call {
                 self.count("ticks of both refused");
             }
-            return self.count(&format!("refusal {refusal}"));
+            self.count(&format!("refusal {refusal}"));
+            return false;
         }
         match *call {
             Call::Reset => self.reset(before),
             Call::Write(address, value) => self.written(address, value, before, after),
             Call::Pins(_) => self.pinned(before, after),
             Call::Transmit => self.transmitted(before, after),
-            Call::Receive(_) => {
-                self.received(before, after);
-            }
-            Call::Tick(_) => self.ticked(before, after),
+            Call::Receive(_) => return self.received(before, after),
+            Call::Tick(_) => return self.ticked(before, after),
             Call::Peek if before.change_mark => self.count("peeks with the change-mark set"),
-            Call::Read(_) | Call::Outputs | Call::Peek | Call::InRange => {}
+            _ => {}
         }
+        false
     }
 
-    /// Both ticks in one call: no part of the view changes by both.
-    fn ticked(&mut self, before: &View, after: &View) {
+    /// Both ticks in one call: no part of the view changes by both. Whether a character
+    /// arrived.
+    fn ticked(&mut self, before: &View, after: &View) -> bool {
         self.count("ticks of both");
         if before.sending && before.hearing.is_some() {
             self.count("ticks of both inside a frame sent and one received");
@@ -394,9 +476,11 @@ impl Reach {
             self.count("ticks of both with a frame begun");
         }
         self.transmitted(before, after);
-        if self.received(before, after) {
+        let arrived = self.received(before, after);
+        if arrived {
             self.count("ticks of both with an arrival");
         }
+        arrived
     }
 }
 
@@ -415,10 +499,28 @@ fn on_garbage(garbage: Garbage, call: &str) -> String {
     format!("device of {}: {call}", garbage.name())
 }
 
+/// A look of which the bytes of a device out of range would say another number.
+fn not_its_own(garbage: Garbage, call: &str) -> String {
+    on_garbage(garbage, call) + ", whose bytes have another number than 0"
+}
+
 /// A pair of chips that is watched.
 pub struct Watched<'a> {
     pub pair: Pair,
     pub reach: &'a mut Reach,
+    watches: [Watch; 2],
+}
+
+impl Watched<'_> {
+    pub fn new(reach: &mut Reach) -> Watched<'_> {
+        let pair = Pair::just_reset();
+        let watches = [Watch::default(); 2];
+        Watched {
+            pair,
+            reach,
+            watches,
+        }
+    }
 }
 
 impl Watched<'_> {
@@ -433,6 +535,9 @@ impl Watched<'_> {
         for (near, far) in [(0, 1), (1, 0)] {
             self.reach.transmitted(&before[near], &after[near]);
             let arrived = self.reach.received(&before[near], &after[near]);
+            let watch = &mut self.watches[near];
+            watch.transmitted(&before[near], &after[near]);
+            watch.received(&before[near], &after[near], arrived);
             if arrived && unequal(&before[far], &before[near]) {
                 self.reach.count("unequal modes");
             }
@@ -463,18 +568,29 @@ impl Bench for Watched<'_> {
             return (0..count).map(|_| self.tick()).collect();
         }
         if let Record::Wait(unit, limit) = record {
-            waits::watch(&mut self.reach.waits, &self.pair, unit, limit);
+            waits::watch(&mut self.reach.often, &self.pair, unit, limit);
             return act_wait(self, |watched| &watched.pair, unit, limit);
         }
         let answer = self.pair.act(record)?;
         let after = self.views();
         match record {
             Record::Write(unit, address, value) => {
+                let watch = &mut self.watches[index(unit)];
                 let (before, after) = (&before[index(unit)], &after[index(unit)]);
                 self.reach.written(address, value, before, after);
+                if address == 3 {
+                    watch.commanded(before, after);
+                }
+            }
+            Record::Read(unit, 0) => {
+                let watch = &mut self.watches[index(unit)];
+                watch.read_stamp(&mut self.reach.often, &after[index(unit)]);
             }
             Record::Pins(unit, _) => self.reach.pinned(&before[index(unit)], &after[index(unit)]),
-            Record::Reset(unit) => self.reach.reset(&before[index(unit)]),
+            Record::Reset(unit) => {
+                self.reach.reset(&before[index(unit)]);
+                self.watches[index(unit)].reset(&before[index(unit)]);
+            }
             Record::Read(..) | Record::JoinedTicks(_) | Record::Wait(..) => {}
         }
         Ok(answer)

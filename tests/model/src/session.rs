@@ -4,7 +4,8 @@
 //! The input is cut into lines first; each line is then read as a record or
 //! refused, and each record acts on the chips, which may refuse it too. The
 //! sections named are those of document 01; where none is named it is "The
-//! session text". P12 is that request of document 02, the change requests.
+//! session text". P4 and P12 are those requests of document 02, the change
+//! requests.
 
 use crate::chip::{joined_ticks, Chip};
 use crate::wait::wait;
@@ -216,7 +217,12 @@ impl Bench for Pair {
             Record::Read(unit, address) => {
                 let (refusal, value) = self.chip(unit).read(address);
                 done(refusal)?;
-                return Ok(format!("R\t{}\t{address}\t{value}\n", letter(unit)));
+                let mut line = format!("R\t{}\t{address}\t{value}", letter(unit));
+                if address == 0 {
+                    // P4: when the character that was read came.
+                    line += &format!("\t{}", self.chip(unit).stamp());
+                }
+                return Ok(line + "\n");
             }
             Record::Pins(unit, [dsr, dcd, cts]) => done(self.chip(unit).set_pins(dsr, dcd, cts))?,
             Record::Reset(unit) => self.chip(unit).reset(),

@@ -12,7 +12,7 @@ use model::ranges::in_range;
 /// character: the mode pointer is 2.
 fn out_of_range() -> Lent {
     let mut bytes = Chip::just_reset().bytes();
-    (bytes[3], bytes[7], bytes[36]) = (1, 2, 1);
+    (bytes[3], bytes[7], bytes[44]) = (1, 2, 1);
     assert!(!in_range(&bytes));
     Lent::of_bytes(bytes)
 }
@@ -356,6 +356,7 @@ fn a_call_on_a_channel_is_the_chips_and_leaves_the_others() {
             let values = rig.done(call);
             let mut chip = before[5].clone();
             let (_, answer) = chip.call(&chip_call);
+            let values: Vec<u32> = values.into_iter().map(u32::from).collect();
             assert!(answer.ends_with(&values), "{call:?}");
             let mut after = before;
             after[5] = chip;
@@ -442,7 +443,7 @@ fn a_character_crosses_a_line_on_one_board_and_between_two() {
 #[test]
 fn lines_as_the_driver_takes_them_and_answers() {
     let mut bench = Bench::new(Side::call);
-    let reset = "00".repeat(9) + "010101" + &"00".repeat(32);
+    let reset = "00".repeat(9) + "010101" + &"00".repeat(DEVICE_BYTES - 12);
     let board = Board {
         number: 2,
         select: 255,
@@ -474,5 +475,8 @@ fn lines_as_the_driver_takes_them_and_answers() {
         assert_eq!(bench.answer(&line), answer, "{text}");
     }
     let bytes = Line::Device(8, [255; DEVICE_BYTES]);
-    assert_eq!(bytes.to_string(), format!("device 8 {}", "ff".repeat(44)));
+    assert_eq!(
+        bytes.to_string(),
+        format!("device 8 {}", "ff".repeat(DEVICE_BYTES))
+    );
 }

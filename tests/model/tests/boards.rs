@@ -6,7 +6,7 @@ mod wrong_boards;
 use model::board::lines::{Bench, Line, Make, Side};
 use model::board::reach::Reach;
 use model::board::{Board, Call};
-use model::chip::set_up;
+use model::chip::{set_number, set_up, RECEIVE_TALLY, TRANSMIT_TALLY};
 use model::driver::{self, difference, text};
 use model::generate::boards::{run, RUNS};
 
@@ -155,7 +155,7 @@ fn a_channel_that_a_refused_call_would_have_changed_is_counted() {
     };
     let mut bytes = set_up(77, 0, 5).bytes();
     // A character is unread; then the mode pointer is none.
-    bytes[36] = 1;
+    bytes[44] = 1;
     let whole = Line::Device(0, bytes);
     bytes[7] = 2;
     let spoilt = Line::Device(0, bytes);
@@ -294,5 +294,40 @@ fn an_arrival_on_a_line_is_counted() {
             reached(&lines, "arrival on channel"),
             "arrival on channel: 0 0 0 1 0 0 0 0 MISSING"
         );
+    }
+}
+
+#[test]
+fn tallies_of_channels_that_are_shown_are_counted() {
+    // Channel 2 has a character to send, and both its tallies wrap with the next tick.
+    let mut chip = set_up(77, 0, 1);
+    chip.write(0, 65);
+    let mut bytes = chip.bytes();
+    set_number(&mut bytes, TRANSMIT_TALLY, u32::MAX);
+    set_number(&mut bytes, RECEIVE_TALLY, u32::MAX);
+    let refused = |call: &str| format!("channel with a tally at 4294967295 shown behind {call}");
+    for (call, name) in [
+        (
+            Call::Transmit(2),
+            "channel shown whose transmit tally wrapped".to_string(),
+        ),
+        (
+            Call::Transmit(2),
+            "channel shown whose frame's start was stamped".to_string(),
+        ),
+        (
+            Call::Receive(2, 0),
+            "channel shown whose receive tally wrapped".to_string(),
+        ),
+        (
+            Call::Receive(2, 0),
+            "channel shown behind a receive tick that is not heard".to_string(),
+        ),
+        (Call::Receive(2, 2), refused("receive refused with 2")),
+        (Call::Transmit(10), refused("transmit refused with 8")),
+    ] {
+        let lines = |shown| [Line::Device(2, bytes), Line::Call(call), Line::Bytes(shown)];
+        assert_eq!(reached(&lines(2), &name), format!("{name}: 1 MISSING"));
+        assert_eq!(reached(&lines(3), &name), format!("{name}: 0 MISSING"));
     }
 }

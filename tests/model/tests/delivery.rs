@@ -47,12 +47,20 @@ fn is_not_for_judging(input: &str, why: &str) {
 #[test]
 fn the_worked_session() {
     let input = SET_UP.to_string() + "W A 0 255; L 152; R B 1; L 1; R B 1; R B 0; R B 1";
-    let output = "R B 1 197; R B 1 195; R B 0 255; R B 1 193; N 16 0";
+    let output = "R B 1 197; R B 1 195; R B 0 255 154; R B 1 193; N 16 0";
     let changes = [
         // A tick early, a tick late, another character, and one that stays unread.
         ("197", "199"),
         ("195", "193"),
         ("255", "254"),
+        // The stamp of the tick before, of one behind, of the start, none, and of a read
+        // that has none.
+        ("255 154", "255 153"),
+        ("255 154", "255 155"),
+        ("255 154", "255 2"),
+        ("255 154", "255 0"),
+        ("255 154", "255"),
+        ("197", "197 0"),
         ("1 193", "1 195"),
         // The flags.
         ("195", "203"),
@@ -86,25 +94,28 @@ fn permission_comes_with_the_first_tick_of_the_frame_that_waited() {
     let input = SET_UP.to_string()
         + "R A 1; W A 0 1; R A 1; L 1; R A 1; W A 0 2; R A 1; L 152; R B 0; L 23; R A 1; L 1; \
            R A 1; L 151; R B 1; L 1; R B 1; R B 0; R B 0";
-    let output = "R A 1 197; R A 1 192; R A 1 193; R A 1 192; R B 0 1; R A 1 192; R A 1 193; \
-        R B 1 197; R B 1 195; R B 0 2; R B 0 2; N 28 0";
+    let output = "R A 1 197; R A 1 192; R A 1 193; R A 1 192; R B 0 1 154; R A 1 192; \
+        R A 1 193; R B 1 197; R B 1 195; R B 0 2 330; R B 0 2 330; N 28 0";
     let changes = [
         // Never, at once, not with the first tick, and too early behind another.
         ("A 1 197", "A 1 196"),
         ("A 1 192", "A 1 193"),
         ("A 1 193", "A 1 192"),
         (
-            "R B 0 1; R A 1 192; R A 1 193",
-            "R B 0 1; R A 1 193; R A 1 193",
+            "R B 0 1 154; R A 1 192; R A 1 193",
+            "R B 0 1 154; R A 1 193; R A 1 193",
         ),
         (
-            "R B 0 1; R A 1 192; R A 1 193",
-            "R B 0 1; R A 1 192; R A 1 192",
+            "R B 0 1 154; R A 1 192; R A 1 193",
+            "R B 0 1 154; R A 1 192; R A 1 192",
         ),
         // The second one comes L after the first, and is given again when read.
         ("R B 1 197", "R B 1 199"),
         ("R B 1 195", "R B 1 193"),
-        ("R B 0 2; R B 0 2", "R B 0 2; R B 0 0"),
+        ("R B 0 2 330; R B 0 2", "R B 0 2 330; R B 0 0"),
+        // So is its stamp, which is not that of the first.
+        ("B 0 2 330; N", "B 0 2 0; N"),
+        ("B 0 2 330; N", "B 0 2 154; N"),
     ];
     is_right_but_not_with(&input, output, &changes);
     let reached = judged(&input, output, &UNITS).unwrap();
@@ -127,7 +138,7 @@ fn a_set_up_in_another_order() {
         R B 3; W B 2 93; x; R A 3; W A 2 61; W A 2 93; W A 2 2; W A 4 0; W B 3 8; P B 0 0 0; \
         W B 3 5; W B 2 1; W A 3 21; R A 3; L 1; W B 0 129; L 10; R A 1; L 1; R A 1; R A 0";
     let output = "E 2 5; E 4 2; R B 2 0; R B 3 0; E 11 6; R A 3 0; E 13 3; E 16 1; R A 3 5; \
-        R A 1 197; R A 1 195; R A 0 129; N 29 5";
+        R A 1 197; R A 1 195; R A 0 129 12; N 29 5";
     let changes = [
         // A mode that the reset left, a command's bit 4, and refusals.
         ("R B 2 0", "R B 2 206"),
@@ -159,11 +170,16 @@ fn a_set_up_of_two_devices_that_did_something() {
     let early = SET_UP.to_string() + "W A 0 0; W B 0 0; L 100; ";
     let again = "Z A; Z B; ".to_string() + SET_UP;
     let input = early.clone() + &again + "R A 1; R B 1; L 200; R B 0; R A 1; W A 0 3; L 153; R B 0";
-    let output = "R A 1 197; R B 1 197; R B 0 0; R A 1 193; R B 0 3; N 31 0";
+    let output = "R A 1 197; R B 1 197; R B 0 0 0; R A 1 193; R B 0 3 354; N 31 0";
     is_right_but_not_with(
         &input,
         output,
-        &[("A 1 197", "A 1 199"), ("B 0 0", "B 0 1")],
+        &[
+            ("A 1 197", "A 1 199"),
+            ("B 0 0", "B 0 1"),
+            // A stamp that counts the ticks before the reset.
+            ("354", "455"),
+        ],
     );
     let reached = judged(&input, output, &UNITS).unwrap();
     assert!(reached.contains(&"set-up after ticks or characters"));
@@ -177,7 +193,7 @@ fn one_way_does_not_rest_on_the_other() {
     let input = SET_UP.replace("206", "77").replace("126", "0")
         + "W B 0 1; L 1; W B 0 2; L 19; R A 1; P A 1 1 0; W A 3 1; P B 1 0 1; W B 3 4; \
            W A 0 65; L 9; R B 1; L 1; R B 1; R B 0";
-    let output = "R A 1 215; R B 1 68; R B 1 66; R B 0 65; N 24 0";
+    let output = "R A 1 215; R B 1 68; R B 1 66; R B 0 65 31; N 24 0";
     assert_eq!(answer(&text(&input)), text(output));
     let from = |unit, output: &str| judged(&input, output, &[unit]);
     let reached = from(Unit::A, output).unwrap();
@@ -194,7 +210,13 @@ fn one_way_does_not_rest_on_the_other() {
     }
     // Flags and characters at A are the other way's.
     assert!(from(Unit::A, &output.replace("215", "253")).is_ok());
-    for (right, wrong) in [("215", "214"), ("68", "70"), ("66", "64"), ("66", "82")] {
+    for (right, wrong) in [
+        ("215", "214"),
+        ("68", "70"),
+        ("66", "64"),
+        ("66", "82"),
+        ("31", "30"),
+    ] {
         assert!(from(Unit::A, &output.replace(right, wrong)).is_err());
     }
     assert!(from(Unit::B, output).is_err());
@@ -205,8 +227,8 @@ fn one_way_does_not_rest_on_the_other() {
 /// 1+D, behind another frame L.
 const WAITS: &str = "B B 0; W A 0 1; B B 328; R B 1; B B 328; R B 0; B B 10; L 13; W A 0 2; L 1; \
     W A 0 3; B B 65535; R B 0; B B 175; B B 1; R B 0; B B 65536; B A 40";
-const WAITED: &str = "B B 0; B B 153; R B 1 199; B B 0; R B 0 1; B B 10; B B 152; R B 0 2; \
-    B B 175; B B 1; R B 0 3; E 26 21; B A 40; N 27 1";
+const WAITED: &str = "B B 0; B B 153; R B 1 199; B B 0; R B 0 1 154; B B 10; B B 152; \
+    R B 0 2 330; B B 175; B B 1; R B 0 3 506; E 26 21; B A 40; N 27 1";
 
 #[test]
 fn a_wait_ends_with_the_first_character_within_its_limit() {
@@ -256,14 +278,14 @@ fn a_wait_may_be_the_one_joined_tick_of_a_set_up() {
     let by_wait = SET_UP.replace("L 1; ", "B A 1; ") + "W A 0 1; B B 328; R B 0";
     is_right_but_not_with(
         &by_wait,
-        "B A 1; B B 153; R B 0 1; N 12 0",
+        "B A 1; B B 153; R B 0 1 154; N 12 0",
         &[("B A 1", "B A 0"), ("153", "152"), ("R B 0 1", "R B 0 0")],
     );
     // One that is refused or has limit 0 is no tick.
     let none = SET_UP.replace("L 1; ", "B A 0; B B 99999; L 1; ") + "W A 0 1; B B 328; R B 0";
     is_right_but_not_with(
         &none,
-        "B A 0; E 10 21; B B 153; R B 0 1; N 14 1",
+        "B A 0; E 10 21; B B 153; R B 0 1 154; N 14 1",
         &[("B A 0; ", ""), ("E 10 21; ", "")],
     );
 }
@@ -272,7 +294,7 @@ fn a_wait_may_be_the_one_joined_tick_of_a_set_up() {
 fn a_wait_is_no_reason_to_read_late() {
     let late = SET_UP.to_string() + "W B 0 1; L 153; ";
     let in_time = late.clone() + "B B 175; R A 0";
-    is_right_but_not_with(&in_time, "B B 175; R A 0 1; N 13 0", &[("175", "174")]);
+    is_right_but_not_with(&in_time, "B B 175; R A 0 1 154; N 13 0", &[("175", "174")]);
     is_not_for_judging(&(late + "B B 176; R A 0"), "before a read");
 }
 

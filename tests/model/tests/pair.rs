@@ -1,6 +1,6 @@
 //! The model's pair: the joined tick of document 01 and the run of P9.
 
-use model::calls::{Call as ChipCall, Lent};
+use model::calls::{Call as ChipCall, Lent, DEVICE_BYTES};
 use model::chip::{joined_ticks, set_up, Chip};
 use model::driver::Entry;
 use model::pair::lines::{Bench, Line};
@@ -19,7 +19,7 @@ fn at_mark() -> Pair {
 }
 
 /// The bytes of a device whose mode pointer is none.
-fn spoilt() -> [u8; 44] {
+fn spoilt() -> [u8; DEVICE_BYTES] {
     let mut bytes = set_up(206, 126, 39).bytes();
     bytes[7] = 2;
     bytes
@@ -100,7 +100,12 @@ fn the_end_that_is_out_of_range_is_reset_and_no_other() {
             pair.call(&Call::On(other, ChipCall::Write(0, 0)));
             *pair.end_mut(unit) = Lent::of_bytes(spoilt());
             pair.call(&call);
-            assert_eq!(*pair.end(unit), Lent::InRange(Chip::just_reset()));
+            // Just reset, but for the ticks since.
+            let reset = Lent::InRange(Chip::just_reset());
+            assert_eq!(pair.end(unit).untallied(), reset);
+            let ticks = if call == Call::Run(200) { 200 } else { 1 };
+            let view = pair.end(unit).view();
+            assert_eq!((view.transmit_tally, view.receive_tally), (ticks, ticks));
             // Its modes are there, and its frame began.
             let view = pair.end(other).view();
             assert_eq!((view.mode1, view.waiting), (Some(206), false));
@@ -129,13 +134,20 @@ fn the_lines_of_the_driver() {
     for (line, text, answer) in lines {
         assert_eq!(enter(line), (text.to_string(), answer.to_string()));
     }
-    let (text, answer) = enter(Line::Device(Unit::A, [0xab; 44]));
+    let (text, answer) = enter(Line::Device(Unit::A, [0xab; DEVICE_BYTES]));
     assert_eq!(
         (text, answer),
-        (format!("a device {}", "ab".repeat(44)), "0".to_string())
+        (
+            format!("a device {}", "ab".repeat(DEVICE_BYTES)),
+            "0".to_string()
+        )
     );
     let (text, answer) = enter(Line::Bytes);
-    assert_eq!((text.as_str(), answer.len()), ("bytes", 176));
+    assert_eq!((text.as_str(), answer.len()), ("bytes", 4 * DEVICE_BYTES));
     // The padding of a device is not shown; mode 1 of b is.
-    assert_eq!((&answer[44..50], &answer[88..90]), ("ab00ab", "4d"));
+    assert_eq!((&answer[44..50], &answer[128..130]), ("ab00ab", "4d"));
+    assert_eq!(
+        (&answer[88..98], &answer[120..128]),
+        ("ab000000ab", "ab000000")
+    );
 }

@@ -4,7 +4,7 @@
 mod wrong_pairs;
 
 use model::calls::{Call as ChipCall, DEVICE_BYTES};
-use model::chip::set_up;
+use model::chip::{set_number, set_up, RECEIVE_TALLY, TRANSMIT_TALLY};
 use model::driver::{self, text};
 use model::generate::pairs::{run, RUNS, WAIT_RUNS};
 use model::pair::hearing::in_step;
@@ -175,7 +175,7 @@ fn end(place: u16, heard: usize) -> [u8; DEVICE_BYTES] {
     let mut bytes = set_up(78, 0, 5).bytes();
     bytes[12..18].copy_from_slice(&[CHARACTER, 16, 8, 0, 0, 16]);
     bytes[18..20].copy_from_slice(&place.to_le_bytes());
-    bytes[24..35].copy_from_slice(&in_step(&FORMAT, CHARACTER, heard));
+    bytes[32..43].copy_from_slice(&in_step(&FORMAT, CHARACTER, heard));
     bytes
 }
 
@@ -218,19 +218,19 @@ fn where_a_receiver_stands_to_its_frame_is_counted() {
         bytes
     };
     let mut waiting = end(50, 0);
-    waiting[24] = 0;
+    waiting[32] = 0;
     // The frame from a is at 60, its receiver where the one from b, at 50, puts it.
     for (b, standing, counts) in [
         (end(50, 60), "in step", "1 1"),
-        (nearly(25, 3), "in step but for its countdown", "1 0"),
-        (nearly(26, 3), "in step but for one bit of its value", "1 0"),
+        (nearly(33, 3), "in step but for its countdown", "1 0"),
+        (nearly(34, 3), "in step but for one bit of its value", "1 0"),
         (
-            nearly(34, 32),
+            nearly(42, 32),
             "in step but for the stop of its format",
             "1 0",
         ),
         (
-            nearly(31, 7),
+            nearly(39, 7),
             "in step but for the length of its format",
             "1 0",
         ),
@@ -298,7 +298,7 @@ fn waits_that(lines: &[Line], what: &str) -> String {
 fn in_93_ticks(unread: u8) -> [[u8; DEVICE_BYTES]; 2] {
     let (a, mut b) = (end(60, 160), end(1, 60));
     b[12..20].fill(0);
-    b[36] = unread;
+    b[44] = unread;
     [a, b]
 }
 
@@ -364,7 +364,7 @@ fn when_the_frame_begins_that_is_waited_for_is_counted() {
         (16, ["0 0", "1 0", "1 0", "1 0"]),
     ] {
         let mut searches = hears;
-        searches[24] = 1;
+        searches[32] = 1;
         let lines = wait(searches, waiting(guard), 0, 400);
         let names = [
             "that begins at once",
@@ -385,7 +385,7 @@ fn when_the_frame_begins_that_is_waited_for_is_counted() {
 fn devices_out_of_range_are_counted_by_the_unit_that_is_named() {
     let whole = set_up(78, 0, 5).bytes();
     let mut out = whole;
-    [out[7], out[36]] = [2, 1];
+    [out[7], out[44]] = [2, 1];
     for (a, b, range, counts) in [
         (whole, whole, "both in range", ["1 0", "0 1"]),
         (out, whole, "its unit out of range", ["1 0", "0 0"]),
@@ -434,5 +434,37 @@ fn of_what_is_dear_fewer_are_enough() {
         reach.run(&longest.repeat(count));
         let line = format!("wait that uses up 65535: {count}{note}\n");
         assert!(reach.report().0.contains(&line), "{line}");
+    }
+}
+
+// What runs and waits do to the tallies.
+
+#[test]
+fn tallies_that_wrap_are_counted_by_end() {
+    let [mut a, mut b] = in_93_ticks(0);
+    set_number(&mut a, TRANSMIT_TALLY, u32::MAX - 9);
+    set_number(&mut a, RECEIVE_TALLY, 0);
+    set_number(&mut b, TRANSMIT_TALLY, 0);
+    // Its character comes with the tick before the wrap, or with the first one behind it.
+    for (to_wrap, before, behind) in [(94, "0 1", "0 0"), (92, "0 0", "0 1")] {
+        set_number(&mut b, RECEIVE_TALLY, u32::MAX - (to_wrap - 1));
+        for (call, lines) in [("run", lines(a, b, 100)), ("wait", wait(a, b, 0, 100))] {
+            for (what, counts) in [
+                ("in which its transmit tally wraps", "1 0"),
+                ("in which its receive tally wraps", "0 1"),
+                ("that stamps a character", "0 1"),
+                ("that stamps a character before the wrap", before),
+                ("that stamps a character behind the wrap", behind),
+                ("that stamps a start behind the wrap", "0 0"),
+            ] {
+                let name = format!("{call} {what}, by end");
+                assert_eq!(reached(&lines, &name), counts, "{to_wrap}: {name}");
+            }
+        }
+    }
+    set_number(&mut a, TRANSMIT_TALLY, u32::MAX);
+    for (ticks, called) in [(0, "run of 0"), (65_536, "refused run")] {
+        let name = format!("{called} with a tally at 4294967295, by end");
+        assert_eq!(reached(&lines(a, b, ticks), &name), "1 0");
     }
 }

@@ -3,8 +3,8 @@
 
 mod wrong_waits;
 
-use model::calls::{numbers, Call, Lent, Line};
-use model::chip::{Chip, View};
+use model::calls::{numbers, Call, Garbage, Lent, Line, DEVICE_BYTES};
+use model::chip::{set_number, Chip, View, RECEIVE_TALLY, TRANSMIT_TALLY};
 use model::driver::{difference, shortest, text};
 use model::generate::calls::{run, RUNS};
 use model::generate::{session, Kind, KINDS, SESSIONS};
@@ -141,13 +141,14 @@ fn no_guard(chip: &mut Chip) {
 
 // The modes, commands and pins of both ends, a character, ticks and a status are
 // nine lines; a further command makes them ten, and a second character after the
-// first, or new pins and a tick, eleven. Where waits bring two characters there is a
+// first, or new pins and a tick, eleven. The mark that the first one needs, or modes 2
+// without which the frames are longer, are lines of their own: twelve. Where waits bring two characters there is a
 // tick and a read between, and one wait more: fourteen.
 
 #[test]
 fn a_bench_that_never_overruns_is_found() {
     let shortest = found(Kind::Realistic, |input| wrong_answer(never_overruns, input));
-    assert!(lines(&shortest) <= 11, "{}", shortest.escape_ascii());
+    assert!(lines(&shortest) <= 12, "{}", shortest.escape_ascii());
 }
 
 #[test]
@@ -243,7 +244,7 @@ fn a_longest_count_that_is_cut_short_is_found() {
         _ => line.to_vec(),
     };
     let shortest = found(Kind::Realistic, |input| answer_to_changed(input, cut));
-    assert!(lines(&shortest) <= 10, "{}", shortest.escape_ascii());
+    assert!(lines(&shortest) <= 12, "{}", shortest.escape_ascii());
 }
 
 #[test]
@@ -585,15 +586,7 @@ fn no_flag_is_seen_while_receive_is_off() {
 /// What a session reached by its text, and on the model's chips.
 fn reached(input: &[u8]) -> String {
     let mut reach = Reach::of_sessions();
-    let pair = Pair::just_reset();
-    let reach_of = &mut reach;
-    let output = answer_on(
-        &mut Watched {
-            pair,
-            reach: reach_of,
-        },
-        input,
-    );
+    let output = answer_on(&mut Watched::new(&mut reach), input);
     reach.session(input, &output);
     reach.report().0
 }
@@ -624,4 +617,75 @@ fn the_lines_of_waits_are_counted() {
         let line = format!("\n{name}: {counts} MISSING\n");
         assert!(report.contains(&line), "{line}{report}");
     }
+}
+
+#[test]
+fn stamps_that_a_session_reads_are_counted() {
+    // 8 bits, no parity, a tick a bit: a character comes 10 ticks after its write.
+    let input = "R A 0; L 3; W A 2 77; W A 3 5; P A 0 0 0; W B 2 77; W B 3 5; P B 0 0 0; L 1; \
+        W A 0 65; L 10; R B 0; R B 0; W A 0 1; L 1; W A 0 2; L 20; R B 0; \
+        W A 0 3; L 11; W B 3 1; R B 0; Z B; R B 0";
+    let report = reached((input.replace("; ", "\n").replace(' ', "\t") + "\n").as_bytes());
+    for (name, counts) in [
+        ("stamp of 0 seen before any character", "2"),
+        ("stamp of 0 seen behind a reset that cleared one", "1"),
+        ("stamp seen behind a read of its character", "3"),
+        ("stamp seen behind a second read of its character", "1"),
+        (
+            "stamp seen of a character that receive off emptied unread",
+            "1",
+        ),
+        ("stamp seen of a character that overran", "1"),
+        ("stamp seen that counts ticks with no mode", "4"),
+        ("stamp seen that counts ticks with receive off", "4"),
+        ("stamp seen by its digits, 1 to 4", "0 4 0 0"),
+        ("stamp seen of five digits or more", "0"),
+    ] {
+        let line = format!("\n{name}: {counts} MISSING\n");
+        assert!(report.contains(&line), "{line}{report}");
+    }
+}
+
+#[test]
+fn tallies_that_a_host_looks_at_are_counted() {
+    let mut about_to_wrap = Chip::just_reset().bytes();
+    set_number(&mut about_to_wrap, TRANSMIT_TALLY, u32::MAX);
+    set_number(&mut about_to_wrap, RECEIVE_TALLY, u32::MAX);
+    let calls = |calls: &[Call]| calls.iter().copied().map(Line::Call).collect::<Vec<_>>();
+    let looks = [Call::TransmitTally, Call::ReceiveTally];
+    let lines = [
+        // A tick that nothing hears, and refused ones.
+        calls(&[Call::Reset, Call::Receive(1), Call::ReceiveTally]),
+        calls(&[Call::Receive(2), Call::TransmitTally, Call::ReceiveTally]),
+        calls(&[Call::Tick(2), Call::ReceiveTally, Call::ReceiveTally]),
+        vec![Line::Device(None, about_to_wrap)],
+        calls(&looks),
+        calls(&[Call::Tick(1)]),
+        calls(&looks),
+        // Its bytes are not what is answered.
+        vec![Line::Device(Some(Garbage::AllOnes), [255; DEVICE_BYTES])],
+        calls(&[Call::Stamp]),
+    ]
+    .concat();
+    let mut reach = Reach::of_calls();
+    reach.run(&lines);
+    let (report, _) = reach.report();
+    let seen = "receive tally seen";
+    let own = "whose bytes have another number than 0";
+    for (name, count) in [
+        (format!("{seen} that counts a tick with no mode"), "5"),
+        (format!("{seen} behind a refused receive tick"), "1"),
+        (
+            "tallies seen behind a refused tick of both".to_string(),
+            "1",
+        ),
+        (format!("{seen} that wrapped"), "1"),
+        ("transmit tally seen that wrapped".to_string(), "1"),
+        ("start stamp seen within its frame".to_string(), "0"),
+    ] {
+        let line = format!("\n{name}: {count} MISSING\n");
+        assert!(report.contains(&line), "{line}{report}");
+    }
+    let line = format!("\ndevice of all ones: stamp, {own}: 1\n");
+    assert!(report.contains(&line), "{line}{report}");
 }

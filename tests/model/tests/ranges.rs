@@ -1,8 +1,8 @@
 //! The ranges of a lent device's bytes (docs/RANGES.md), at some of their edges, and
 //! the chip that they are.
 
-use model::calls::{without_padding, Call, DEVICE_BYTES};
-use model::chip::Chip;
+use model::calls::{without_padding, Call, DEVICE_BYTES, PADDING};
+use model::chip::{Chip, RECEIVE_TALLY, STAMP, START, TRANSMIT_TALLY};
 use model::generate::ranges::{device, draws};
 use model::ranges::in_range;
 
@@ -29,8 +29,8 @@ fn frame(place: u16) -> Bytes {
 /// A character of 5 bits, odd, 1 stop bit and this factor, before a look.
 fn character(factor: u8, look: u8, countdown: u8, value: u8, wrong: u8) -> Bytes {
     with(&[
-        (24, &[2, countdown, value, wrong, look, 0]),
-        (30, &[factor, 5, 1, 0, factor]),
+        (32, &[2, countdown, value, wrong, look, 0]),
+        (38, &[factor, 5, 1, 0, factor]),
     ])
 }
 
@@ -40,7 +40,15 @@ fn at_rest() {
     assert!(in_range(&with(&[(9, &[1, 1, 1])])));
     assert!(!in_range(&[255; DEVICE_BYTES]));
     // Padding is no field.
-    assert!(in_range(&with(&[(23, &[255]), (37, &[255]), (43, &[255])])));
+    assert!(PADDING
+        .iter()
+        .all(|&place| in_range(&with(&[(place, &[255])]))));
+    // Any tally and any stamp will do.
+    for place in [START, TRANSMIT_TALLY, STAMP, RECEIVE_TALLY] {
+        for byte in 0..4 {
+            assert!((0..=255).all(|any| in_range(&with(&[(place + byte, &[any])]))));
+        }
+    }
     // The guard, and a character that waits or does not.
     assert!(in_range(&with(&[(22, &[64])])));
     assert!(!in_range(&with(&[(22, &[65])])));

@@ -67,7 +67,7 @@ fn filled(line: &str, length: usize) -> String {
 fn the_worked_session() {
     let input = "W A 2 206; W A 2 126; W A 3 39; W B 2 206; W B 2 126; W B 3 39; P A 0 0 0; \
         P B 0 0 0; L 1; W A 0 255; L 152; R B 1; L 1; R B 1; R B 0; R B 1";
-    let output = "R B 1 197; R B 1 195; R B 0 255; R B 1 193; N 16 0";
+    let output = "R B 1 197; R B 1 195; R B 0 255 154; R B 1 193; N 16 0";
     gives(input, output);
 }
 
@@ -84,7 +84,10 @@ fn the_program_writes_the_answer_to_its_input() {
     drop(stdin);
     let output = program.wait_with_output().unwrap();
     assert!(output.status.success());
-    assert_eq!(output.stdout, text("R B 0 255; E 13 1; N 13 1").as_bytes());
+    assert_eq!(
+        output.stdout,
+        text("R B 0 255 154; E 13 1; N 13 1").as_bytes()
+    );
 }
 
 #[test]
@@ -433,10 +436,10 @@ fn a_wait_prints_its_unit_and_its_count() {
 #[test]
 fn the_worked_session_by_waits() {
     let input = format!("{SET_UP}W A 0 255; B B 328; R B 1; B B 328; R B 0; B B 328; R B 1");
-    let output = "B B 153; R B 1 199; B B 0; R B 0 255; B B 328; R B 1 193; N 16 0";
+    let output = "B B 153; R B 1 199; B B 0; R B 0 255 154; B B 328; R B 1 193; N 16 0";
     gives(&input, output);
     let input = format!("{SET_UP}W A 0 255; B B 152; R B 1; B B 1; R B 1; R B 0");
-    let output = "B B 152; R B 1 197; B B 1; R B 1 195; R B 0 255; N 15 0";
+    let output = "B B 152; R B 1 197; B B 1; R B 1 195; R B 0 255 154; N 15 0";
     gives(&input, output);
 }
 
@@ -445,15 +448,15 @@ fn a_wait_concerns_its_unit_alone() {
     let written = format!("{SET_UP}W A 0 65; ");
     gives(
         &format!("{written}B A 200; R B 0"),
-        "B A 200; R B 0 65; N 12 0",
+        "B A 200; R B 0 65 154; N 12 0",
     );
     gives(
         &format!("{written}B B 200; R A 0"),
-        "B B 153; R A 0 0; N 12 0",
+        "B B 153; R A 0 0 0; N 12 0",
     );
     // B comes 100 ticks behind A.
     let both = format!("{written}L 100; W B 0 66; B A 65535; B B 65535; R A 0; R B 0");
-    gives(&both, "B A 153; B B 0; R A 0 66; R B 0 65; N 16 0");
+    gives(&both, "B A 153; B B 0; R A 0 66 254; R B 0 65 154; N 16 0");
 }
 
 #[test]
@@ -479,7 +482,7 @@ fn a_wait_clears_no_mark() {
 fn both_chips_begin_as_after_reset() {
     for unit in ["A", "B"] {
         let reads = "R U 0; R U 1; R U 2; R U 2; R U 3".replace('U', unit);
-        let zeros = "R U 0 0; R U 1 0; R U 2 0; R U 2 0; R U 3 0".replace('U', unit);
+        let zeros = "R U 0 0 0; R U 1 0; R U 2 0; R U 2 0; R U 3 0".replace('U', unit);
         gives(&reads, &(zeros + "; N 5 0"));
     }
 }
@@ -501,11 +504,11 @@ fn a_record_concerns_its_unit_alone() {
 fn characters_go_both_ways() {
     gives(
         &format!("{SET_UP}W A 0 65; W B 0 66; L 153; R A 0; R B 0"),
-        "R A 0 66; R B 0 65; N 14 0",
+        "R A 0 66 154; R B 0 65 154; N 14 0",
     );
     gives(
         &format!("{SET_UP}W B 0 77; L 152; R A 1; L 1; R A 1; R A 0; R B 0"),
-        "R A 1 197; R A 1 195; R A 0 77; R B 0 0; N 16 0",
+        "R A 1 197; R A 1 195; R A 0 77 154; R B 0 0 0; N 16 0",
     );
 }
 
@@ -517,12 +520,13 @@ fn receive_off_and_on_clears_a_bad_character() {
     let good = "; R B 1; W A 0 65; L 153; R B 1; R B 0; R B 1";
     gives(
         &format!("{SET_UP}{broken}W B 3 35; R B 1; W B 3 39; L 1{good}"),
-        "R B 1 197; R B 1 227; R B 1 193; R B 1 193; R B 1 195; R B 0 65; R B 1 193; N 25 0",
+        "R B 1 197; R B 1 227; R B 1 193; R B 1 193; R B 1 195; R B 0 65 375; R B 1 193; N 25 0",
     );
     // Not with receive left on, nor with a command that is refused.
     gives(
         &format!("{SET_UP}{broken}R B 0; W B 3 39; R B 1; W B 3 67{good}"),
-        "R B 1 197; R B 1 227; R B 0 0; R B 1 225; E 19 5; R B 1 225; R B 1 227; R B 0 65; \
+        "R B 1 197; R B 1 227; R B 0 0 154; R B 1 225; E 19 5; R B 1 225; R B 1 227; \
+        R B 0 65 374; \
         R B 1 225; N 25 1",
     );
 }
@@ -548,7 +552,10 @@ fn the_most_joined_ticks() {
     let input = format!("{slow}L 255; L 256; L 161; R B 1; L 1; R B 1");
     gives(&input, "R B 1 197; R B 1 193; R B 1 195; N 17 0");
     let input = format!("{slow}L 65535; R B 1; R B 0; R A 1");
-    gives(&input, "R B 1 197; R B 1 195; R B 0 65; R A 1 197; N 15 0");
+    gives(
+        &input,
+        "R B 1 197; R B 1 195; R B 0 65 674; R A 1 197; N 15 0",
+    );
 }
 
 #[test]
@@ -561,9 +568,9 @@ fn a_reset_in_the_middle() {
     // It drops the character under way at the receiver, and at the sender: there
     // the line goes to 1 for the rest, so that what comes is cut short.
     let input = format!("{SET_UP}W A 0 255; L 100; Z B; L 65535; R B 0; R B 1");
-    gives(&input, "R B 0 0; R B 1 0; N 15 0");
+    gives(&input, "R B 0 0 0; R B 1 0; N 15 0");
     let input = format!("{SET_UP}W A 0 0; L 80; Z A; L 65535; R B 0");
-    gives(&input, "R B 0 240; N 14 0");
+    gives(&input, "R B 0 240 154; N 14 0");
 }
 
 #[test]
@@ -571,6 +578,6 @@ fn a_session_goes_on_after_a_reset() {
     let worked = format!("{SET_UP}W A 0 255; L 153; R B 0");
     gives(
         &format!("{worked}; Z A; Z B; {worked}"),
-        "R B 0 255; R B 0 255; N 26 0",
+        "R B 0 255 154; R B 0 255 154; N 26 0",
     );
 }

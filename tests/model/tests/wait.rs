@@ -23,7 +23,7 @@ fn write(pair: &mut Pair, unit: Unit, value: u8) {
     assert_eq!(pair.call(&Call::On(unit, ChipCall::Write(0, value))).0, 0);
 }
 
-fn read(pair: &mut Pair, unit: Unit, address: u8) -> u16 {
+fn read(pair: &mut Pair, unit: Unit, address: u8) -> u32 {
     pair.call(&Call::On(unit, ChipCall::Read(address))).1[1]
 }
 
@@ -182,9 +182,14 @@ fn the_number_0_names_a_and_any_other_b() {
 /// The bytes of a device that is out of range by its mode pointer, and marked unread.
 fn marked() -> [u8; DEVICE_BYTES] {
     let mut bytes = there(Unit::A).a.bytes();
-    assert_eq!(bytes[36], 1);
+    assert_eq!(bytes[44], 1);
     bytes[7] = 2;
     bytes
+}
+
+/// A device just reset, to which one out of range comes but for its ticks since.
+fn reset() -> Lent {
+    Lent::InRange(Chip::just_reset())
 }
 
 #[test]
@@ -196,7 +201,8 @@ fn a_unit_out_of_range_holds_no_character() {
         spends(&given, unit, 0, 0);
         for limit in [1, 2, 300] {
             let after = spends(&given, unit, limit.into(), limit);
-            assert_eq!(*after.end(unit), Lent::InRange(Chip::just_reset()));
+            assert_eq!(after.end(unit).untallied(), reset());
+            assert_eq!(after.end(unit).view().receive_tally, limit.into());
             // The other goes on as it stands.
             assert!(after.end(other(unit)).holds_unread());
         }
@@ -217,7 +223,8 @@ fn the_other_unit_out_of_range_is_reset_with_the_first_tick() {
         *pair.end_mut(other(unit)) = spoilt.clone();
         assert_eq!(*spends(&pair, unit, 0, 0).end(other(unit)), spoilt);
         let after = spends(&pair, unit, 300, 133);
-        assert_eq!(*after.end(other(unit)), Lent::InRange(Chip::just_reset()));
+        assert_eq!(after.end(other(unit)).untallied(), reset());
+        assert_eq!(after.end(other(unit)).view().transmit_tally, 133);
     }
 }
 

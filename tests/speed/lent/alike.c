@@ -1,5 +1,6 @@
-/* A pseudo-random run of all ten calls, made by the proved ones and by the plain ones on devices of their own: the answers are the same,
- * and after each call all fields of the devices. Bytes are spoilt now and then, so that the edges of the range are met (docs/RANGES.md). */
+/* A pseudo-random run of all fourteen calls, made by the proved ones and by the plain ones on devices of their own: the answers are the
+ * same, and after each call all fields of the devices. Bytes are spoilt now and then, so that the edges of the range are met
+ * (docs/RANGES.md), and tallies are put to where they wrap soon. */
 #include <stdio.h>
 #include <string.h>
 
@@ -19,15 +20,16 @@ static unsigned below(unsigned n) {
 
 static uint8_t byte(void) { return (uint8_t)below(256); }
 
-enum { RESET, READ, WRITE, PINS, TRANSMIT, RECEIVE, TICK, OUTPUTS, PEEK, IN_RANGE, CALLS };
-static const char *const names[CALLS] = {"reset", "read", "write", "pins", "transmit", "receive", "tick", "outputs", "peek", "in_range"};
+enum { RESET, READ, WRITE, PINS, TRANSMIT, RECEIVE, TICK, OUTPUTS, PEEK, IN_RANGE, STAMP, START, TRANSMIT_TALLY, RECEIVE_TALLY, CALLS };
+static const char *const names[CALLS] = {"reset",   "read", "write",    "pins",  "transmit", "receive",        "tick",
+                                         "outputs", "peek", "in_range", "stamp", "start",    "transmit_tally", "receive_tally"};
 
 typedef struct call {
     unsigned which;
     uint8_t bytes[3];
 } call;
 
-static uint16_t make(const calls *by, ins2651 *device, const call *c) {
+static uint32_t make(const calls *by, ins2651 *device, const call *c) {
     const uint8_t *n = c->bytes;
     switch (c->which) {
     case RESET: return by->reset(device);
@@ -39,7 +41,11 @@ static uint16_t make(const calls *by, ins2651 *device, const call *c) {
     case TICK: return by->tick(device, n[0]);
     case OUTPUTS: return by->outputs(device);
     case PEEK: return by->peek(device);
-    default: return by->in_range(device);
+    case IN_RANGE: return by->in_range(device);
+    case STAMP: return by->stamp(device).ticks;
+    case START: return by->start(device).ticks;
+    case TRANSMIT_TALLY: return by->transmit_tally(device).ticks;
+    default: return by->receive_tally(device).ticks;
     }
 }
 
@@ -52,7 +58,7 @@ typedef struct pair {
 
 static int same(const ins2651 *a, const ins2651 *b) {
     const unsigned char *x = (const unsigned char *)a, *y = (const unsigned char *)b;
-    return !memcmp(x, y, 23) && !memcmp(x + 24, y + 24, 13) && !memcmp(x + 38, y + 38, 5); /* all but the padding */
+    return !memcmp(x, y, 23) && !memcmp(x + 24, y + 24, 21) && !memcmp(x + 48, y + 48, 13); /* all but the padding */
 }
 
 static void print_device(const char *title, const ins2651 *device) {
@@ -63,9 +69,9 @@ static void print_device(const char *title, const ins2651 *device) {
 }
 
 /* A call on each; the proved answer. */
-static uint16_t both(pair *p, const call *c) {
+static uint32_t both(pair *p, const call *c) {
     ins2651 before = p->proved;
-    uint16_t wanted = make(&proved, &p->proved, c), answer = make(&plain, &p->plain, c);
+    uint32_t wanted = make(&proved, &p->proved, c), answer = make(&plain, &p->plain, c);
     if (wanted == answer && same(&p->proved, &p->plain)) return wanted;
     printf("alike: %s with %u %u %u: proved %u, plain %u\n", names[c->which], c->bytes[0], c->bytes[1], c->bytes[2], wanted, answer);
     print_device("before", &before);
@@ -109,6 +115,12 @@ static int probe(pair *p) {
     return out;
 }
 
+/* The tallies so few ticks before they wrap that a character sees it. */
+static void other_tallies(pair *p) {
+    p->proved.sender.tally.ticks = p->plain.sender.tally.ticks = -below(1000);
+    p->proved.receiver.tally.ticks = p->plain.receiver.tally.ticks = -below(1000);
+}
+
 static void garbage(pair *p) {
     for (size_t i = 0; i < sizeof p->proved; i++) ((unsigned char *)&p->proved)[i] = byte();
     p->plain = p->proved;
@@ -142,6 +154,7 @@ int answer_alike(void) {
     for (unsigned long step = 0; step < STEPS && !p.differed; step++) {
         if (!below(256)) set_up(&p);
         if (!below(20000)) garbage(&p);
+        if (!below(5000)) other_tallies(&p);
         if (!below(24)) {
             call write = {WRITE, {0, byte(), 0}};
             both(&p, &write);

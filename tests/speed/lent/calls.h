@@ -1,4 +1,5 @@
-/* The ten calls of a chip, by pointers: the proved ones, and those of chip.c, which is compiled with each `ins2651_` call as `plain_`. */
+/* The fourteen calls of a chip, by pointers: the proved ones, and those of chip.c, which is compiled with each `ins2651_` call as
+ * `plain_`. */
 #ifndef CALLS_H
 #define CALLS_H
 
@@ -15,6 +16,10 @@ typedef struct calls {
     uint16_t (*outputs)(ins2651 *);
     uint16_t (*peek)(ins2651 *);
     uint16_t (*in_range)(ins2651 *);
+    ins2651_rxc (*stamp)(ins2651 *);
+    ins2651_txc (*start)(ins2651 *);
+    ins2651_txc (*transmit_tally)(ins2651 *);
+    ins2651_rxc (*receive_tally)(ins2651 *);
 } calls;
 
 extern const calls proved, plain;

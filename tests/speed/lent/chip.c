@@ -1,5 +1,5 @@
-/* The chip of include/ins2651.h written by hand, in plain C: the same ten calls on the same struct, in place, each with the exact check of
- * docs/RANGES.md. It is what tests/speed/lent/run times the proved calls against; tests/random holds it to the independent model.
+/* The chip of include/ins2651.h written by hand, in plain C: the same fourteen calls on the same struct, in place, each with the exact
+ * check of docs/RANGES.md. It is what tests/speed/lent/run times the proved calls against; tests/random holds it to the independent model.
  * The sections named are those of document 01. */
 #include <string.h>
 
@@ -55,6 +55,7 @@ INLINE int receiver_in_range(const ins2651_receiver *r) {
     return memcmp((const char *)r + FROM, none, sizeof none) == 0;
 }
 
+/* Any number is in range in the tallies and stamps. */
 INLINE int in_range(const ins2651 *d) {
     const ins2651_input_pins *p = &d->pins;
     uint32_t flags; /* four of them, looked at as one word */
@@ -106,6 +107,7 @@ INLINE unsigned frame_tick(ins2651 *d) {
 INLINE unsigned transmit_tick(ins2651 *d) {
     const ins2651_registers *r = &d->registers;
     ins2651_sender *s = &d->sender;
+    s->tally.ticks++;
     if (s->frame.place) return frame_tick(d);
     int internal = r->mode2 & INS2651_MODE2_TRANSMIT_INTERNAL;
     int ready = (r->command & INS2651_COMMAND_TRANSMIT) && !d->pins.cts && r->accepted;
@@ -118,6 +120,7 @@ INLINE unsigned transmit_tick(ins2651 *d) {
     } else if (ready && s->full) {
         s->frame = (ins2651_frame){s->holding, format_of(r->mode1, internal), 1}; /* this tick was its first */
         s->holding = s->full = 0;
+        s->start = s->tally;
         return 0;
     }
     return 1;
@@ -144,6 +147,7 @@ INLINE void arrive(ins2651 *d, uint8_t stop) {
     d->flags.framing |= !stop;
     r->holding = r->state.value;
     r->unread = 1;
+    r->stamp = r->tally;
     rest(r, stop ? SEARCHING : WAITING);
 }
 
@@ -171,6 +175,7 @@ INLINE void look(ins2651 *d, uint8_t level) {
 INLINE void receive_tick(ins2651 *d, uint8_t level) {
     const ins2651_registers *r = &d->registers;
     ins2651_sampling *s = &d->receiver.state;
+    d->receiver.tally.ticks++;
     if (!(r->command & INS2651_COMMAND_RECEIVE) || d->pins.dcd || !r->accepted) rest(&d->receiver, WAITING);
     else if (s->phase == WAITING) s->phase = level ? SEARCHING : WAITING;
     else if (s->phase == HEARING && s->countdown) s->countdown--;
@@ -300,3 +305,9 @@ uint16_t ins2651_outputs(ins2651 *d) {
 /* The status of a device just reset is 0. */
 uint16_t ins2651_peek(ins2651 *d) { return in_range(d) ? status(d) : 0; }
 uint16_t ins2651_in_range(ins2651 *d) { return (uint16_t)in_range(d); }
+
+/* A device just reset has stamps and tallies of 0. */
+ins2651_rxc ins2651_stamp(ins2651 *d) { return in_range(d) ? d->receiver.stamp : (ins2651_rxc){0}; }
+ins2651_txc ins2651_start(ins2651 *d) { return in_range(d) ? d->sender.start : (ins2651_txc){0}; }
+ins2651_txc ins2651_transmit_tally(ins2651 *d) { return in_range(d) ? d->sender.tally : (ins2651_txc){0}; }
+ins2651_rxc ins2651_receive_tally(ins2651 *d) { return in_range(d) ? d->receiver.tally : (ins2651_rxc){0}; }

@@ -17,11 +17,17 @@ uint16_t plain_tick(ins2651 *device, uint8_t level);
 uint16_t plain_outputs(ins2651 *device);
 uint16_t plain_peek(ins2651 *device);
 uint16_t plain_in_range(ins2651 *device);
+ins2651_rxc plain_stamp(ins2651 *device);
+ins2651_txc plain_start(ins2651 *device);
+ins2651_txc plain_transmit_tally(ins2651 *device);
+ins2651_rxc plain_receive_tally(ins2651 *device);
 
-const calls proved = {ins2651_reset,   ins2651_read, ins2651_write,   ins2651_pins, ins2651_transmit,
-                      ins2651_receive, ins2651_tick, ins2651_outputs, ins2651_peek, ins2651_in_range};
-const calls plain = {plain_reset,   plain_read, plain_write,   plain_pins, plain_transmit,
-                     plain_receive, plain_tick, plain_outputs, plain_peek, plain_in_range};
+const calls proved = {ins2651_reset,   ins2651_read,  ins2651_write,          ins2651_pins,         ins2651_transmit,
+                      ins2651_receive, ins2651_tick,  ins2651_outputs,        ins2651_peek,         ins2651_in_range,
+                      ins2651_stamp,   ins2651_start, ins2651_transmit_tally, ins2651_receive_tally};
+const calls plain = {plain_reset,   plain_read,  plain_write,          plain_pins,         plain_transmit,
+                     plain_receive, plain_tick,  plain_outputs,        plain_peek,         plain_in_range,
+                     plain_stamp,   plain_start, plain_transmit_tally, plain_receive_tally};
 
 /* The calls on one device, which a frame and a character of 64 ticks a bit outlast, and those between two looks at the clock. */
 enum { STRETCH = 512, BATCH = 8 * STRETCH };
@@ -58,7 +64,7 @@ static ins2651 under_way(const calls *by) {
 
 typedef uint32_t batch(const calls *by, const ins2651 *begun);
 
-static uint32_t summed(uint32_t sum, uint16_t answer) { return 31 * sum + answer; }
+static uint32_t summed(uint32_t sum, uint32_t answer) { return 31 * sum + answer; }
 
 #define BATCH_OF(name, call) \
     static uint32_t name(const calls *by, const ins2651 *begun) { \
@@ -85,6 +91,10 @@ BATCH_OF(pin_calls, pins(&device, 0, 0, 0))
 BATCH_OF(outputs, outputs(&device))
 BATCH_OF(peeks, peek(&device))
 BATCH_OF(range_looks, in_range(&device))
+BATCH_OF(stamps, stamp(&device).ticks)
+BATCH_OF(starts, start(&device).ticks)
+BATCH_OF(transmit_tallies, transmit_tally(&device).ticks)
+BATCH_OF(receive_tallies, receive_tally(&device).ticks)
 BATCH_OF(resets, reset(&device))
 
 /* == joined ticks == */
@@ -112,6 +122,8 @@ static void attend(const calls *by, line *l, unsigned length, unsigned i) {
 }
 
 static uint32_t ended(const calls *by, line *l) {
+    l->sum = summed(l->sum, by->stamp(&l->a).ticks);
+    l->sum = summed(l->sum, by->stamp(&l->b).ticks);
     l->sum = summed(l->sum, by->read(&l->a, INS2651_STATUS));
     return summed(l->sum, by->read(&l->b, INS2651_STATUS));
 }
@@ -177,6 +189,11 @@ static const row rows[] = {
     {"peek, both under way", peeks, under_way, 1},
     {"in_range, idle", range_looks, idle, 1},
     {"in_range, both under way", range_looks, under_way, 1},
+    {"stamp, idle", stamps, idle, 1},
+    {"stamp, both under way", stamps, under_way, 1},
+    {"start, both under way", starts, under_way, 1},
+    {"transmit_tally, both under way", transmit_tallies, under_way, 1},
+    {"receive_tally, both under way", receive_tallies, under_way, 1},
     {"reset", resets, under_way, 0},
     {"mode read", mode_reads, idle, 0},
     {"mode write", mode_writes, idle, 0},

@@ -134,10 +134,18 @@ pub struct Chip {
     full: bool,
     frame: Frame,
     guard: u8,
+    /// Transmit ticks since reset.
+    transmit_tally: u32,
+    /// That tally after the first tick of the last frame.
+    frame_start: u32,
 
     receiver: Receiver,
     held: u8,
     unread: bool,
+    /// Receive ticks since reset.
+    receive_tally: u32,
+    /// That tally after the stop sample of the held character.
+    stamp: u32,
 
     framing: bool,
     overrun: bool,
@@ -167,6 +175,8 @@ impl Chip {
             full: false,
             frame: Frame::default(),
             guard: 0,
+            transmit_tally: 0,
+            frame_start: 0,
             receiver: Receiver {
                 phase: Phase::Waiting,
                 countdown: 0,
@@ -177,6 +187,8 @@ impl Chip {
             },
             held: 0,
             unread: false,
+            receive_tally: 0,
+            stamp: 0,
             framing: false,
             overrun: false,
             parity: false,
@@ -289,6 +301,7 @@ impl Chip {
     /// The level that a transmit tick sends ("Sending").
     #[inline(always)]
     pub fn transmit(&mut self) -> bool {
+        self.transmit_tally = self.transmit_tally.wrapping_add(1);
         if self.frame.ticks > 0 {
             return self.frame_tick();
         }
@@ -303,6 +316,7 @@ impl Chip {
         }
         if ready && self.full {
             self.full = false;
+            self.frame_start = self.transmit_tally;
             self.frame = Frame::begin(&self.sending, self.waiting);
             return self.frame_tick();
         }
@@ -320,6 +334,7 @@ impl Chip {
     /// A receive tick with the line at `level` ("Receiving").
     #[inline(always)]
     pub fn receive(&mut self, level: bool) {
+        self.receive_tally = self.receive_tally.wrapping_add(1);
         if self.command & RECEIVE == 0 || self.dcd || !self.mode_set {
             self.receiver.phase = Phase::Waiting;
             return;
@@ -386,6 +401,7 @@ impl Chip {
         self.framing |= !stop;
         self.held = self.receiver.value;
         self.unread = true;
+        self.stamp = self.receive_tally;
         self.receiver.phase = if stop {
             Phase::Searching
         } else {
@@ -402,6 +418,21 @@ impl Chip {
             | u8::from(self.empty_mark || self.change_mark) << 2
             | u8::from(self.unread) << 1
             | u8::from(self.command & TRANSMIT != 0 && !self.full)
+    }
+
+    /// When the held character came, on the receive clock (P4).
+    pub fn stamp(&self) -> u32 {
+        self.stamp
+    }
+
+    /// When the last frame began, on the transmit clock (P4).
+    pub fn frame_start(&self) -> u32 {
+        self.frame_start
+    }
+
+    /// The transmit ticks and the receive ticks since reset (P4).
+    pub fn tallies(&self) -> [u32; 2] {
+        [self.transmit_tally, self.receive_tally]
     }
 
     /// SYN1, SYN2 and DLE, which no call of the chip itself reads.

@@ -62,13 +62,22 @@ fn long_runs(runs: usize) -> String {
     "L\t65535\n".repeat(runs)
 }
 
+/// What comes before a line that is full, with its ticks or without: a character for each end, after so many ticks of mark
+/// that its stamp has the seven digits of nearly every later one (P4). Without it the stamps of a session without ticks
+/// would be 0, and the digits that they have more with ticks, which are the text's, would count with the ticks.
+pub fn lead() -> String {
+    let ticks = FULL_16.ticks;
+    let character = write_both(0) + &format!("L\t{ticks}\n") + READ_BOTH;
+    set_up(FULL_16.mode1) + &long_runs(16) + &character
+}
+
 /// Both ends send without a pause: a character is written while the one before it is sent, and each is read before the
 /// next arrives. `characters` is for each way.
 pub fn full(frames: &Frames, characters: usize) -> String {
     let mut text = set_up(frames.mode1) + &write_both(0) + "L\t1\n";
     for k in 1..=characters {
         text += &write_both(k);
-        text += &format!("L\t{}\nR\tA\t0\nR\tB\t0\n", frames.ticks);
+        text += &format!("L\t{}\n{READ_BOTH}", frames.ticks);
     }
     text + STATUS
 }
@@ -84,6 +93,8 @@ pub fn apart(frames: &Frames, characters: usize) -> String {
     }
     text + STATUS
 }
+
+const READ_BOTH: &str = "R\tA\t0\nR\tB\t0\n";
 
 /// The error flags are in the status: they show a character that was lost or taken wrongly.
 const STATUS: &str = "R\tA\t1\nR\tB\t1\n";

@@ -1,6 +1,8 @@
 //! One chip in place on the struct that a C host lends, with the exact check of docs/RANGES.md at each call: what
 //! `lent/chip.c` is in C. The sections named are those of document 01.
 
+use std::mem::offset_of;
+
 // The bits of the command and of mode 2 ("Registers").
 const TRANSMIT: u8 = 1;
 const DTR: u8 = 2;
@@ -71,6 +73,8 @@ pub struct Sender {
     holding: u8,
     full: u8,
     guard: u8,
+    start: u32,
+    tally: u32,
 }
 
 #[repr(C)]
@@ -90,6 +94,8 @@ pub struct Receiver {
     format: Format,
     holding: u8,
     unread: u8,
+    stamp: u32,
+    tally: u32,
 }
 
 #[repr(C)]
@@ -112,8 +118,14 @@ pub struct Device {
     flags: Flags,
 }
 
-pub const DEVICE_BYTES: usize = 44;
+pub const DEVICE_BYTES: usize = 64;
 const _: () = assert!(std::mem::size_of::<Device>() == DEVICE_BYTES);
+
+/// Where the transmit tally and the receive tally are.
+pub const TALLIES: [usize; 2] = [
+    offset_of!(Device, sender.tally),
+    offset_of!(Device, receiver.tally),
+];
 
 impl Format {
     /// Stop lengths 1, 2, 3 are 2, 3, 4 half bits; with a factor of 1 one and a half is cut to one tick.
@@ -265,6 +277,8 @@ impl Device {
             holding: 0,
             full: 0,
             guard: 0,
+            start: 0,
+            tally: 0,
         },
         receiver: Receiver {
             state: Sampling {
@@ -277,6 +291,8 @@ impl Device {
             format: NO_FORMAT,
             holding: 0,
             unread: 0,
+            stamp: 0,
+            tally: 0,
         },
         flags: Flags {
             framing: 0,
@@ -305,6 +321,28 @@ impl Device {
         };
     }
 
+    /// Other tallies of the transmit ticks and of the receive ticks.
+    pub fn set_tallies(&mut self, [transmit, receive]: [u32; 2]) {
+        (self.sender.tally, self.receiver.tally) = (transmit, receive);
+    }
+
+    // What the fields say, without a look at the range.
+
+    pub fn tallies(&self) -> [u32; 2] {
+        [self.sender.tally, self.receiver.tally]
+    }
+
+    /// When the held character came, on the receive clock.
+    pub fn stamp(&self) -> u32 {
+        self.receiver.stamp
+    }
+
+    /// When the last frame began, on the transmit clock.
+    pub fn frame_start(&self) -> u32 {
+        self.sender.start
+    }
+
+    /// Numbers are in range in the tallies and stamps, whatever they are.
     #[inline(always)]
     pub fn in_range(&self) -> bool {
         let (p, f) = (&self.pins, &self.flags);
@@ -487,6 +525,7 @@ impl Device {
     /// The level that is sent ("Sending").
     #[inline(always)]
     pub(crate) fn transmit_tick(&mut self) -> u8 {
+        self.sender.tally = self.sender.tally.wrapping_add(1);
         if self.sender.frame.place > 0 {
             return self.frame_tick();
         }
@@ -507,6 +546,7 @@ impl Device {
                 place: 1,
             };
             (s.holding, s.full) = (0, 0);
+            s.start = s.tally;
             return 0;
         }
         1
@@ -529,6 +569,7 @@ impl Device {
     #[inline(always)]
     pub(crate) fn receive_tick(&mut self, level: u8) {
         let (r, receiver) = (&self.registers, &mut self.receiver);
+        receiver.tally = receiver.tally.wrapping_add(1);
         let state = &mut receiver.state;
         if r.command & RECEIVE == 0 || self.pins.dcd == 1 || r.accepted == 0 {
             receiver.rest(WAITING);
@@ -573,6 +614,7 @@ impl Device {
         flags.parity |= r.state.wrong;
         flags.framing |= stop ^ 1;
         (r.holding, r.unread) = (r.state.value, 1);
+        r.stamp = r.tally;
         r.rest(if stop == 1 { SEARCHING } else { WAITING });
     }
 

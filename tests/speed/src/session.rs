@@ -53,8 +53,12 @@ impl Pair {
             b"W" => chip.write(byte(), byte())?,
             b"R" => {
                 let address = byte();
-                let value = chip.read(address)?;
-                writeln!(output, "R\t{}\t{address}\t{value}", char::from(unit)).unwrap();
+                let (unit, value) = (char::from(unit), chip.read(address)?);
+                match address {
+                    0 => writeln!(output, "R\t{unit}\t0\t{value}\t{}", chip.stamp()),
+                    _ => writeln!(output, "R\t{unit}\t{address}\t{value}"),
+                }
+                .unwrap();
             }
             b"P" => chip.set_pins(byte(), byte(), byte())?,
             b"Z" => chip.reset(),

@@ -2,16 +2,19 @@
 
 use model::calls::{Call, Lent};
 use model::generate::ranges::{device, draws, spoilt};
-use speed::lent::Device;
+use speed::lent::{Device, TALLIES};
 use speed::pair::Pair;
 use speed::pair::Unit::{A, B};
 
 /// Status bit 1.
-const UNREAD: u8 = 2;
+fn shows_unread(lent: &mut Lent) -> bool {
+    lent.call(&Call::Peek).1[0] & 2 != 0
+}
 
 /// A joined tick by the calls of each device.
 fn tick([a, b]: &mut [Lent; 2]) -> u16 {
-    let (from_a, from_b) = (a.call(&Call::Transmit).1[0], b.call(&Call::Transmit).1[0]);
+    let sent = |lent: &mut Lent| u8::from(lent.call(&Call::Transmit).1[0] == 1);
+    let (from_a, from_b) = (sent(a), sent(b));
     a.call(&Call::Receive(from_b));
     b.call(&Call::Receive(from_a));
     u16::from(2 * from_b + from_a)
@@ -20,7 +23,7 @@ fn tick([a, b]: &mut [Lent; 2]) -> u16 {
 /// Joined ticks until a unit shows an unread character, or the limit is used up; how many.
 fn wait(pair: &mut [Lent; 2], unit: usize, limit: u32) -> u32 {
     let mut count = 0;
-    while count < limit && pair[unit].call(&Call::Peek).1[0] & UNREAD == 0 {
+    while count < limit && !shows_unread(&mut pair[unit]) {
         tick(pair);
         count += 1;
     }
@@ -32,7 +35,14 @@ fn the_plain_pair_is_the_models() {
     for index in 0..3000 {
         let draws = &mut draws(index);
         let bytes = [(); 2].map(|()| {
-            let sound = device(draws);
+            let mut sound = device(draws);
+            if draws.one_in(2) {
+                // tallies that wrap within the runs
+                for place in TALLIES {
+                    let tally = draws.below(1500).wrapping_neg();
+                    sound[place..place + 4].copy_from_slice(&tally.to_ne_bytes());
+                }
+            }
             [spoilt(draws, &sound).1, sound][usize::from(draws.below(8) > 0)]
         });
         let [a, b] = bytes.map(Device::of_bytes);

@@ -4,6 +4,7 @@ use model::chip::Chip as Slow;
 use model::Generator;
 use speed::chip::{joined_ticks, Chip};
 use speed::input::*;
+use speed::lent::Device;
 use speed::session::MOST_LINES;
 
 /// One chip both ways; each call is answered alike.
@@ -28,6 +29,15 @@ impl Twin {
             Err(refusal)
         };
         assert_eq!(self.fast.read(address), read, "read {address}");
+        self.times_alike();
+    }
+
+    /// The stamps and tallies; the model's are taken from its bytes.
+    fn times_alike(&self) {
+        let slow = Device::of_bytes(self.slow.bytes());
+        assert_eq!(self.fast.tallies(), slow.tallies());
+        assert_eq!(self.fast.stamp(), slow.stamp());
+        assert_eq!(self.fast.frame_start(), slow.frame_start());
     }
 
     fn write(&mut self, address: u8, value: u8) {
@@ -137,6 +147,8 @@ fn the_fast_chip_is_the_models() {
             calls += 4 * ticks;
             (0..ticks).for_each(|_| Twin::tick(&mut a, &mut b, looks));
             noise(&mut g, &mut a);
+            a.times_alike();
+            b.times_alike();
         }
     }
     assert!(calls > 5_000_000, "{calls} calls of ticks alone");
@@ -190,6 +202,56 @@ fn the_plain_session_is_the_models() {
     }
 }
 
+/// Document 01's session, with the stamp of P4.
+#[test]
+fn a_read_of_data_prints_its_stamp() {
+    let lines = "W A 2 206;W A 2 126;W A 3 39;W B 2 206;W B 2 126;W B 3 39;P A 0 0 0;P B 0 0 0;\
+        L 1;W A 0 255;L 152;R B 1;L 1;R B 1;R B 0;R B 1";
+    let text = |lines: &str| lines.replace(' ', "\t").replace(';', "\n");
+    let answer = "R B 1 197;R B 1 195;R B 0 255 154;R B 1 193;N 16 0;";
+    assert_eq!(same_answer(text(lines)), text(answer));
+    // Other ticks leave the stamp, and so does a read; a reset does not.
+    let lines = lines.to_string() + ";L 9;R B 0;R A 0;Z B;R B 0";
+    let answer = answer.replace("N 16 0", "R B 0 255 154;R A 0 0 0;R B 0 0 0;N 21 0");
+    assert_eq!(same_answer(text(&lines)), text(&answer));
+}
+
+/// By which `run` takes the text's time off: behind a lead, stamps are as long without ticks as with them.
+#[test]
+fn a_lead_makes_stamps_long() {
+    let full = full(&FULL_16, 300);
+    let ticks = format!("L\t{}\n", FULL_16.ticks);
+    let still = full.replace(&ticks, "L\t0\n").replace("L\t1\n", "L\t0\n");
+    assert_eq!(still.matches("L\t0\n").count(), 302);
+    let begun = 1 + 16 * 65_535 + 1;
+    for (lines, last) in [
+        (full, begun + 176 + 1 + 168 + 299 * 176),
+        (still, begun + 168),
+    ] {
+        let answer = same_answer(lead() + &lines);
+        let stamps: Vec<u32> = answer
+            .lines()
+            .filter(|line| line.starts_with("R\tA\t0\t") || line.starts_with("R\tB\t0\t"))
+            .map(|line| line.rsplit('\t').next().unwrap().parse().unwrap())
+            .collect();
+        assert_eq!(stamps.len(), 602);
+        assert!(stamps
+            .iter()
+            .all(|stamp| (1_000_000..10_000_000).contains(stamp)));
+        assert_eq!(stamps[601], last);
+    }
+}
+
+/// By which `run` compares whole sessions of mark: no character comes, and so no stamp moves.
+#[test]
+fn mark_changes_no_answer() {
+    for input in [idle(1), unset(1)] {
+        let input = input + "R\tA\t0\nR\tB\t0\n";
+        let still = input.replace("L\t65535", "L\t0").replace("L\t1", "L\t0");
+        assert_eq!(same_answer(still), same_answer(input));
+    }
+}
+
 #[test]
 fn whole_sessions_are_as_long_as_one_can_be() {
     for (input, runs) in [(whole_idle(), MOST_LINES - 11), (whole_unset(), MOST_LINES)] {
@@ -198,20 +260,22 @@ fn whole_sessions_are_as_long_as_one_can_be() {
     }
 }
 
-/// Each of 300 characters is read at the other end, and no error flag is set.
-fn nothing_is_lost(session: String) {
+/// Each of 300 characters is read at the other end, with its stamp, and no error flag is set. The first one of A begins at
+/// tick 2, that of B `behind` ticks later; each arrives `arrival` ticks (D) later.
+fn nothing_is_lost(session: String, frames: &Frames, arrival: usize, behind: usize) {
     let answer = same_answer(session);
     let read_at = |unit: &str| -> Vec<&str> {
         let from = format!("R\t{unit}\t0\t");
         let values = answer.lines().filter_map(|line| line.strip_prefix(&*from));
         values.collect()
     };
-    let sent = |value: fn(usize) -> usize| -> Vec<String> {
-        let values = (0..300).map(|k| (value(k) % 256).to_string());
+    let sent = |begun: usize, value: fn(usize) -> usize| -> Vec<String> {
+        let stamp = |k| begun + arrival + k * usize::from(frames.ticks);
+        let values = (0..300).map(|k| format!("{}\t{}", value(k) % 256, stamp(k)));
         values.collect()
     };
-    assert_eq!(read_at("A"), sent(|k| 13 * k + 85));
-    assert_eq!(read_at("B"), sent(|k| 7 * k + 1));
+    assert_eq!(read_at("A"), sent(2 + behind, |k| 13 * k + 85));
+    assert_eq!(read_at("B"), sent(2, |k| 7 * k + 1));
     let mut lines = answer.lines().skip(600);
     assert_eq!(lines.next(), Some("R\tA\t1\t197"));
     assert_eq!(lines.next(), Some("R\tB\t1\t197"));
@@ -219,9 +283,10 @@ fn nothing_is_lost(session: String) {
 
 #[test]
 fn a_full_line_is_the_models() {
-    nothing_is_lost(full(&FULL_1, 300));
-    for frames in [&FULL_16, &FULL_64] {
-        nothing_is_lost(full(frames, 300));
-        nothing_is_lost(apart(frames, 300));
+    nothing_is_lost(full(&FULL_1, 300), &FULL_1, 10, 0);
+    for (frames, arrival) in [(&FULL_16, 168), (&FULL_64, 672)] {
+        let half = frames.ticks / 2;
+        nothing_is_lost(full(frames, 300), frames, arrival, 0);
+        nothing_is_lost(apart(frames, 300), frames, arrival, half.into());
     }
 }

@@ -1,4 +1,4 @@
--- `host::outputs` meets its contract. The five levels weighed, and the device as it is.
+-- `host::outputs` meets its contract. The five levels weighed.
 -- Assumes nothing.
 use borrow.Author.Needs.{needs}
 use mathlib.Core.Path.{refl}

@@ -7,7 +7,7 @@ use Rattle.session.proofs.obey.Tie as tie
 
 returns : tie.Need-returns
 unfolding obey
-returns c = rw (c .before .before .before .before .r .given .1, c .answered .ensures, c .before .write .ensures, c .before .before .device-of .ensures)
+returns c = rw (c .before .before .r .given .1, c .write .ensures)
 
 returns-2 : tie.Need-returns-2
 unfolding obey
@@ -15,7 +15,7 @@ returns-2 c = rw (c .before .before .r2 .given .1, c .read .ensures)
 
 returns-3 : tie.Need-returns-3
 unfolding obey
-returns-3 c = rw (c .before .before .before .before .r3 .given .1, c .answered2 .ensures, c .before .set-pins .ensures, c .before .before .device-of2 .ensures)
+returns-3 c = rw (c .before .before .before .before .r3 .given .1, c .answered .ensures, c .before .set-pins .ensures, c .before .before .device-of .ensures)
 
 returns-4 : tie.Need-returns-4
 unfolding obey
@@ -34,4 +34,4 @@ unfolding obey
 returns-7 c = rw (c .before .enum-told .given .1, c .refused .ensures)
 
 pub obey-spec : {M : Type 1} → statement M
-obey-spec = tie.close (tie.spec (λ c. search needs) (λ c κs. search needs) (λ c κs. search needs) (λ c κs. search needs) (λ c. search needs) (λ c κs. search needs) (λ c. search needs) (λ c κs. search needs) (λ c κs. search needs) (λ c κs. search needs) (λ c. search needs) (λ c κs. search needs) (λ c κs. search needs) (λ c. search needs) (λ c κs. search needs) (λ c. search needs) (λ c κs. search needs) (λ c. search needs) (λ c κs. search needs) returns returns-2 returns-3 returns-4 returns-5 returns-6 returns-7)
+obey-spec = tie.close (tie.spec (λ c. search needs) (λ c κs. search needs) (λ c. search needs) (λ c κs. search needs) (λ c. search needs) (λ c κs. search needs) (λ c κs. search needs) (λ c κs. search needs) (λ c. search needs) (λ c κs. search needs) (λ c κs. search needs) (λ c. search needs) (λ c κs. search needs) (λ c. search needs) (λ c κs. search needs) (λ c. search needs) (λ c κs. search needs) returns returns-2 returns-3 returns-4 returns-5 returns-6 returns-7)

@@ -16,5 +16,8 @@ returns-3 c = rw (c .before .said2 .given .1)
 returns-4 : tie.Need-returns-4
 returns-4 c = rw (c .before .said3 .given .1)
 
+returns-5 : tie.Need-returns-5
+returns-5 c = rw (c .before .said4 .given .1)
+
 pub row-of-spec : {M : Type 1} → statement M
-row-of-spec = tie.close (tie.spec (λ c. search needs) (λ c. search needs) (λ c. search needs) (λ c. search needs) returns returns-2 returns-3 returns-4)
+row-of-spec = tie.close (tie.spec (λ c. search needs) (λ c. search needs) (λ c. search needs) (λ c. search needs) (λ c. search needs) returns returns-2 returns-3 returns-4 returns-5)

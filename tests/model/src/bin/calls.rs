@@ -1,5 +1,6 @@
-//! Prints what the chip answers to pseudo-random runs of calls, as text with
-//! tabs: what the program `run_calls` has to write.
+//! Prints what the chip answers to pseudo-random runs of calls, and the stamps and
+//! tallies that each leaves, as text with tabs: what the program `run_calls` has to
+//! write.
 
 use model::chip::Chip;
 use model::Generator;
@@ -24,8 +25,8 @@ impl Session {
         self.draw(n) as u8
     }
 
-    fn mix(&mut self, number: u8) {
-        self.sum = self.sum.wrapping_mul(31).wrapping_add(u32::from(number));
+    fn mix(&mut self, number: impl Into<u32>) {
+        self.sum = self.sum.wrapping_mul(31).wrapping_add(number.into());
     }
 
     fn mix_refusal(&mut self, refusal: u8) {
@@ -45,6 +46,11 @@ impl Session {
         let (refusal, value) = self.chip.read(address);
         self.mix_refusal(refusal);
         self.mix(value);
+        // With a character goes its stamp (P4), and the start of the last frame sent.
+        if address == 0 {
+            self.mix(self.chip.stamp());
+            self.mix(self.chip.start());
+        }
     }
 
     fn write(&mut self, address: u8, value: u8) {
@@ -195,6 +201,14 @@ fn print_session(number: u32) {
     println!(
         "Q\t{number}\t{}\t{}\t{}",
         session.calls, session.refused, session.sum
+    );
+    let chip = &session.chip;
+    println!(
+        "T\t{}\t{}\t{}\t{}",
+        chip.stamp(),
+        chip.start(),
+        chip.transmit_tally(),
+        chip.receive_tally()
     );
 }
 

@@ -130,11 +130,31 @@ fn hear(chip: &mut Chip, samples: &[bool]) {
     }
 }
 
-/// A read of each address in turn.
+/// A read of each address in turn; that of a character with its stamp (P4 of the change
+/// requests).
 fn show(chip: &mut Chip, addresses: &[u8]) {
     for &address in addresses {
         let (refusal, value) = chip.read(address);
-        println!("R\t{address}\t{refusal}\t{value}");
+        match address {
+            0 => println!("R\t{address}\t{refusal}\t{value}\t{}", chip.stamp()),
+            _ => println!("R\t{address}\t{refusal}\t{value}"),
+        }
+    }
+}
+
+/// The start of the last frame, and both tallies.
+fn show_start(chip: &Chip) {
+    println!(
+        "S\t{}\t{}\t{}",
+        chip.start(),
+        chip.transmit_tally(),
+        chip.receive_tally()
+    );
+}
+
+fn transmit(chip: &mut Chip, ticks: u32) {
+    for _ in 0..ticks {
+        chip.transmit();
     }
 }
 
@@ -166,6 +186,43 @@ fn print_chip_cases() {
     show(&mut chip, &[1, 0]);
 }
 
+fn print_stamp_cases() {
+    // Read, read again, and read when receive off has emptied the register; ticks with
+    // receive off count.
+    println!("K\tstamps");
+    let mut chip = set_up(77, 0, 4);
+    hear(&mut chip, &run(true, 1));
+    hear(&mut chip, &frame(&plain(1), 65));
+    show(&mut chip, &[0, 0]);
+    hear(&mut chip, &frame(&plain(1), 66));
+    chip.write(3, 0);
+    hear(&mut chip, &run(false, 5));
+    show(&mut chip, &[0]);
+    chip.write(3, 4);
+    hear(&mut chip, &run(true, 1));
+    hear(&mut chip, &frame(&plain(1), 67));
+    chip.receive(2);
+    show(&mut chip, &[0]);
+    show_start(&chip);
+
+    // A break and its guard begin no frame; nor does mark, behind one that ends.
+    println!("K\tstarts");
+    let mut chip = set_up(77, 0, 13);
+    transmit(&mut chip, 3);
+    chip.write(3, 5);
+    chip.write(0, 65);
+    for ticks in [1, 1, 12] {
+        transmit(&mut chip, ticks);
+        show_start(&chip);
+    }
+    chip.write(0, 66);
+    transmit(&mut chip, 1);
+    show_start(&chip);
+    chip.reset();
+    show_start(&chip);
+    show(&mut chip, &[0]);
+}
+
 fn print_joined_cases() {
     println!("K\tsession");
     let (mut a, mut b) = (set_up(206, 126, 39), set_up(206, 126, 39));
@@ -175,6 +232,8 @@ fn print_joined_cases() {
     show(&mut b, &[1]);
     joined_ticks(&mut a, &mut b, 1);
     show(&mut b, &[1, 0, 1]);
+    show_start(&a);
+    show_start(&b);
 
     println!("K\tfault");
     let (mut a, mut b) = (set_up(126, 0, 5), set_up(94, 0, 5));
@@ -188,6 +247,8 @@ fn print_joined_cases() {
     show(&mut b, &[1, 0, 1]);
     b.write(3, 21);
     show(&mut b, &[1]);
+    show_start(&a);
+    show_start(&b);
 }
 
 fn main() {
@@ -209,5 +270,6 @@ fn main() {
         );
     }
     print_chip_cases();
+    print_stamp_cases();
     print_joined_cases();
 }

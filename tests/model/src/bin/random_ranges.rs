@@ -1,18 +1,21 @@
 //! Random devices against the C driver, whose command stands behind `--`: it
 //! tells whether they are in range as the model does, and leaves their bytes.
 
-use model::calls::{hexadecimal, without_padding, DEVICE_BYTES};
+use model::calls::{hexadecimal, without_padding, DEVICE_BYTES, PADDING};
 use model::generate::ranges::{device, draws, spoilt};
 use model::program::Program;
 use model::ranges::in_range;
+use std::ops::RangeInclusive;
 use std::process::ExitCode;
 
 const RUNS: u32 = 16;
 const DEVICES: u32 = 1500;
 /// The devices of which one is shown after the look, since that takes long.
 const SHOWN: usize = 9;
-/// The bytes that may have any number: mode 2, SYN1, SYN2, DLE, RHR, padding.
-const ANY: [usize; 8] = [1, 4, 5, 6, 23, 35, 37, 43];
+/// The bytes that may have any number: mode 2, SYN1, SYN2, DLE, RHR; then the stamps and
+/// the tallies of each direction. So may padding.
+const ANY: [usize; 5] = [1, 4, 5, 6, 43];
+const TALLIES: [RangeInclusive<usize>; 2] = [24..=31, 48..=55];
 
 /// What was reached: devices in range, and those that one byte put out of range.
 struct Reach {
@@ -86,7 +89,17 @@ fn main() -> ExitCode {
     let (inside, out_by) = (reach.inside, reach.out_by);
     let out: u32 = out_by.iter().sum();
     println!("random_ranges: {inside} devices in range and {out} out of it by one byte are told");
-    let missing = |place: &usize| out_by[*place] == 0 && !ANY.contains(place);
+    let any = |place: &usize| {
+        let tally = TALLIES.iter().any(|places| places.contains(place));
+        tally || ANY.contains(place) || PADDING.contains(place)
+    };
+    if let Some(place) = (0..DEVICE_BYTES).find(|place| any(place) && out_by[*place] > 0) {
+        println!(
+            "random_ranges: byte {place}, which may have any number, put a device out of range"
+        );
+        return ExitCode::FAILURE;
+    }
+    let missing = |place: &usize| out_by[*place] == 0 && !any(place);
     if let Some(place) = (0..DEVICE_BYTES).find(missing) {
         println!("random_ranges: byte {place} put no device out of range");
         return ExitCode::FAILURE;

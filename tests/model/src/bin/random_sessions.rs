@@ -6,7 +6,7 @@ use model::delivery::judge;
 use model::generate::{senders, session, Kind, KINDS, SESSIONS};
 use model::program::Program;
 use model::reach::{Reach, Watched};
-use model::session::{answer, answer_on, Pair};
+use model::session::{answer, answer_on};
 use model::shorten;
 use std::process::ExitCode;
 use std::thread;
@@ -36,8 +36,7 @@ fn work(program: &Program, worker: usize) -> (Reach, Option<usize>) {
 
 fn passes(program: &Program, kind: Kind, index: u32, reach: &mut Reach) -> bool {
     let input = session(kind, index);
-    let pair = Pair::just_reset();
-    let expected = answer_on(&mut Watched { pair, reach }, &input);
+    let expected = answer_on(&mut Watched::new(reach), &input);
     reach.session(&input, &expected);
     match judge(&input, &expected, &senders(kind, index)) {
         Ok(names) => reach.delivered(&names),

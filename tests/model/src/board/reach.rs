@@ -3,6 +3,7 @@
 
 mod interrupts;
 mod refused;
+mod tallies;
 
 pub use interrupts::own_bits;
 pub use refused::{goes_nowhere, granted, needs_a_select};
@@ -116,6 +117,7 @@ impl Reach {
         counts.name_places(CHANNELS, ["reset of channel", "arrival on channel"]);
         interrupts::name(&mut counts);
         refused::name(&mut counts);
+        tallies::name(&mut counts);
         Reach { counts }
     }
 
@@ -152,6 +154,8 @@ impl Reach {
                 }
                 (Line::Bytes(place), Some(made)) if made.used == bench.used => {
                     self.device_shown(made, *place);
+                    let lents = [&made.before.room[*place], &bench.side().room[*place]];
+                    tallies::shown(&mut self.counts, &made.call, made.refusal, lents);
                 }
                 // What is shown from now on is not what the call left.
                 (Line::Set(_) | Line::Device(..), _) => last = None,

@@ -1,11 +1,27 @@
 //! The chip as the bytes of the struct that a host lends, and a chip from such
-//! bytes (docs/RANGES.md has each field). A number of two bytes has its low byte
-//! first; the bytes between fields are 0.
+//! bytes (docs/RANGES.md has each field). A number of more than one byte
+//! has its low byte first; the bytes between fields are 0.
 
 use super::{Chip, Receiver};
 use crate::calls::DEVICE_BYTES;
 use crate::ranges::{bits_before, format, in_range};
 use crate::{frame, Format};
+
+// The places of the numbers of four bytes (P4).
+pub const START: usize = 24;
+pub const TRANSMIT_TALLY: usize = 28;
+pub const STAMP: usize = 48;
+pub const RECEIVE_TALLY: usize = 52;
+
+/// The number of four bytes at a place.
+pub fn number(bytes: &[u8; DEVICE_BYTES], place: usize) -> u32 {
+    let four = [0, 1, 2, 3].map(|byte| bytes[place + byte]);
+    u32::from_le_bytes(four)
+}
+
+pub fn set_number(bytes: &mut [u8; DEVICE_BYTES], place: usize, number: u32) {
+    bytes[place..place + 4].copy_from_slice(&number.to_le_bytes());
+}
 
 impl Chip {
     /// The chip of some bytes; none where they are out of range.
@@ -22,10 +38,13 @@ impl Chip {
         chip.syn_next = bytes[8].into();
         [chip.dsr, chip.dcd, chip.cts] = [bytes[9], bytes[10], bytes[11]];
         chip.take_sender(&bytes[12..23]);
-        chip.take_receiver(&bytes[24..37]);
+        chip.take_receiver(&bytes[32..45]);
+        let number = |place: usize| number(bytes, place);
+        [chip.start, chip.transmit_tally] = [START, TRANSMIT_TALLY].map(number);
+        [chip.stamp, chip.receive_tally] = [STAMP, RECEIVE_TALLY].map(number);
         let flag = |place: usize| bytes[place] == 1;
-        [chip.framing, chip.overrun, chip.parity] = [38, 39, 40].map(flag);
-        [chip.empty_mark, chip.change_mark] = [41, 42].map(flag);
+        [chip.framing, chip.overrun, chip.parity] = [56, 57, 58].map(flag);
+        [chip.empty_mark, chip.change_mark] = [59, 60].map(flag);
         Some(chip)
     }
 
@@ -60,11 +79,19 @@ impl Chip {
         bytes[7..9].copy_from_slice(&pointers);
         bytes[9..12].copy_from_slice(&[self.dsr, self.dcd, self.cts]);
         bytes[12..23].copy_from_slice(&self.sender_bytes());
-        bytes[24..37].copy_from_slice(&self.receiver_bytes());
+        bytes[32..45].copy_from_slice(&self.receiver_bytes());
+        for (place, number) in [
+            (START, self.start),
+            (TRANSMIT_TALLY, self.transmit_tally),
+            (STAMP, self.stamp),
+            (RECEIVE_TALLY, self.receive_tally),
+        ] {
+            set_number(&mut bytes, place, number);
+        }
         let flags = [self.framing, self.overrun, self.parity];
         let marks = [self.empty_mark, self.change_mark];
-        bytes[38..41].copy_from_slice(&flags.map(u8::from));
-        bytes[41..43].copy_from_slice(&marks.map(u8::from));
+        bytes[56..59].copy_from_slice(&flags.map(u8::from));
+        bytes[59..61].copy_from_slice(&marks.map(u8::from));
         bytes
     }
 

@@ -18,6 +18,11 @@ pub struct View {
     pub waiting: bool,
     pub sending: bool,
     pub guard: u32,
+    /// The tallies of both clocks, and what was stamped by each.
+    pub transmit_tally: u32,
+    pub start: u32,
+    pub receive_tally: u32,
+    pub stamp: u32,
     /// The frame under way: its format, and its ticks so far.
     pub frame: Option<(Format, usize)>,
     /// Receive on, DCD low and mode 1 accepted: a receive tick is heard.

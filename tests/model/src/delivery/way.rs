@@ -26,6 +26,8 @@ pub struct Way {
     /// The latest character that came, and when, while it is unread.
     held: u8,
     came: Option<u32>,
+    /// When the character that is held came, read or not; none while there was none.
+    latest: Option<u32>,
 }
 
 impl Way {
@@ -39,6 +41,7 @@ impl Way {
             to_come: VecDeque::new(),
             held: 0,
             came: None,
+            latest: None,
         }
     }
 
@@ -145,6 +148,12 @@ impl Way {
         }
     }
 
+    /// The receive tally with which the character held came. Both ends were reset, or
+    /// began so, and the one joined tick of the set-up was the first since.
+    pub fn stamp(&self) -> u32 {
+        self.latest.map_or(0, |came| came + 1)
+    }
+
     /// A call that is done.
     pub fn take(&mut self, record: Record) {
         match record {
@@ -172,6 +181,7 @@ impl Way {
                 self.to_come.pop_front();
                 self.held = value;
                 self.came = Some(comes);
+                self.latest = Some(comes);
             }
             _ => {}
         }

@@ -1,16 +1,18 @@
 //! Random runs for the board's C driver, on two boards: hostile numbers in every
 //! call and field, each call done and refused in every way on a channel out of range
-//! and on one in range, a cabinet in which both boards take every select, and two
-//! channels joined by a line while others are called between its ticks. What a call
-//! may have changed, and what it must have left, is looked at behind it.
+//! and on one in range, a cabinet in which both boards take every select, two channels
+//! joined by a line while others are called between its ticks, and ticks of channels
+//! whose tallies wrap. What a call may have changed, and what it must have left, is looked at behind it.
 
 use super::any_mode;
-use super::ranges::{device, out_of_range, spoilt};
+use super::ranges::{device, out_of_range, spoilt, tally};
 use crate::board::lines::{Bench, Line, Side, PLACES};
 use crate::board::{Board, Call, CHANNELS};
 use crate::calls::DEVICE_BYTES;
-use crate::chip::decode;
+use crate::chip::{decode, set_number, RECEIVE_TALLY, TRANSMIT_TALLY};
 use crate::draw::Draws;
+use crate::frame;
+use crate::pair::hearing::heard;
 
 pub const RUNS: u32 = 120;
 /// A run ends with the episode that brings it over this number of lines.
@@ -60,17 +62,39 @@ pub fn run(index: u32) -> Vec<Line> {
     };
     let mut episode = index;
     while run.lines.len() < LINES {
-        match episode % 5 {
+        match episode % 6 {
             0 => run.each_call(out_of_range),
             1 => run.cabinet(),
             2 => run.joined(),
             3 => run.each_call(device),
+            4 => run.tallied(),
             _ => run.hostile(),
         }
         episode += 1;
     }
     run.show_all();
     run.lines
+}
+
+/// A device whose next transmit tick begins a frame and whose next receive tick is that
+/// of a stop sample, most often; any tallies, of which some then wrap.
+fn about_to_stamp(draws: &mut Draws) -> [u8; DEVICE_BYTES] {
+    let mut bytes = device(draws);
+    let mode1 = any_mode(draws);
+    bytes[..3].copy_from_slice(&[mode1, 0, 1]);
+    bytes[3] = draws.of(&[5, 5, 5, 13, 4, 1]);
+    bytes[9..12].copy_from_slice(&draws.of(&[[0, 0, 0], [0, 0, 0], [0, 1, 0], [0, 0, 1]]));
+    let (format, character) = (decode(mode1, false), draws.byte());
+    bytes[12..23].fill(0);
+    bytes[20..22].copy_from_slice(&[character, 1]);
+    let levels = frame(&format, character);
+    let so_far = &levels[..format.stop_sample() as usize];
+    bytes[32..43].copy_from_slice(&heard(mode1, 0, so_far));
+    for place in [TRANSMIT_TALLY, RECEIVE_TALLY] {
+        let any = tally(draws);
+        set_number(&mut bytes, place, draws.of(&[u32::MAX, u32::MAX, any]));
+    }
+    bytes
 }
 
 impl Run<'_> {
@@ -320,6 +344,30 @@ impl Run<'_> {
             9 => Call::Out(0, value),
             10 => Call::Out(3, value & 63 | 5),
             _ => Call::Outputs(value % 8),
+        }
+    }
+
+    // Tallies.
+
+    /// Ticks of channels at which a frame begins, a character ends and a tally wraps,
+    /// and the resets of such channels, done and refused.
+    fn tallied(&mut self) {
+        self.set(0, 0, 0);
+        self.set(1, 1, 8);
+        for _ in 0..20 {
+            let end = self.any_end();
+            let wrong = self.draws.between(2, 255) as u8;
+            let channel = self.draws.of(&[end.channel, end.channel, end.channel | 8]);
+            let call = match self.draws.below(8) {
+                0..=2 => Call::Transmit(channel),
+                3..=5 => Call::Receive(channel, 1),
+                6 => Call::Receive(channel, wrong),
+                _ => Call::Reset,
+            };
+            let channels = self.draws.of(&[CHANNELS, CHANNELS, CHANNELS, 7]);
+            self.count(end.board, channels);
+            self.call_on(end, about_to_stamp, call);
+            self.count(end.board, CHANNELS);
         }
     }
 

@@ -2,18 +2,28 @@
 //! and receive ticks, apart or in one call; the levels received are frames, good
 //! and damaged, short pulses and noise, or what was sent.
 
+use super::ranges::tally;
 use super::{accepted_mode, any_mode, ACCEPTED_MODES};
 use crate::calls::{Call, Garbage, Lent, Line, DEVICE_BYTES};
-use crate::chip::{decode, Chip, INTERNAL_RECEIVE_CLOCK};
+use crate::chip::{decode, set_number, Chip, INTERNAL_RECEIVE_CLOCK};
+use crate::chip::{RECEIVE_TALLY, STAMP, START, TRANSMIT_TALLY};
 use crate::draw::Draws;
 use crate::{frame, Format};
 use std::collections::VecDeque;
 
-pub const RUNS: u32 = 96;
+pub const RUNS: u32 = 102;
 /// A run ends with the episode that brings it over this number of lines.
-const LINES: usize = 2800;
+const LINES: usize = 3200;
 /// The kind in the seeds, behind those of the sessions.
 const KIND: u32 = 4;
+
+/// The looks at tallies and stamps (P4).
+const LOOKS: [Call; 4] = [
+    Call::Stamp,
+    Call::Start,
+    Call::TransmitTally,
+    Call::ReceiveTally,
+];
 
 /// One turn of a run.
 #[derive(Clone, Copy)]
@@ -59,10 +69,10 @@ const LEAST_OUT_OF_RANGE: [(usize, usize, u8); 13] = [
     (12, 20, 1),  // the frame, and a character that does not wait
     (21, 21, 2),  // full
     (22, 22, 65), // the guard
-    (24, 24, 2),  // the receiver's phase
-    (25, 34, 1),  // the character under way
-    (36, 36, 2),  // unread
-    (38, 42, 2),  // the flags
+    (32, 32, 2),  // the receiver's phase
+    (33, 42, 1),  // the character under way
+    (44, 44, 2),  // unread
+    (56, 60, 2),  // the flags
 ];
 
 /// A run that is being written, and the device that it leaves.
@@ -86,6 +96,7 @@ pub fn run(index: u32) -> Vec<Line> {
         sent: 1,
     };
     run.garbage();
+    run.stamped();
     let mut mode = index * ACCEPTED_MODES / RUNS;
     while run.lines.len() < LINES {
         run.set_up(accepted_mode(mode % ACCEPTED_MODES));
@@ -102,7 +113,7 @@ impl Run<'_> {
     }
 
     /// The numbers answered.
-    fn call(&mut self, call: Call) -> Vec<u8> {
+    fn call(&mut self, call: Call) -> Vec<u32> {
         self.lines.push(Line::Call(call));
         self.lent.call(&call).1
     }
@@ -113,7 +124,7 @@ impl Run<'_> {
             Garbage::Random => [(); DEVICE_BYTES].map(|()| self.draws.byte()),
             Garbage::OneByte => one_wrong_byte(self.draws),
         };
-        self.add(Line::Device(garbage, bytes));
+        self.add(Line::Device(Some(garbage), bytes));
     }
 
     /// Each call as the first on a device out of range, then the bytes, which
@@ -144,7 +155,7 @@ impl Run<'_> {
             Call::InRange,
         ];
         for garbage in Garbage::ALL {
-            for call in calls {
+            for call in calls.into_iter().chain(LOOKS) {
                 self.device(garbage);
                 self.call(call);
                 self.add(Line::Bytes);
@@ -154,6 +165,94 @@ impl Run<'_> {
                     self.call(Call::Read(address));
                 }
             }
+        }
+    }
+
+    /// The tallies and the stamps on frames of one tick a bit, each looked at behind what
+    /// moves it or must leave it.
+    fn stamped(&mut self) {
+        self.call(Call::Reset);
+        self.call(Call::Stamp);
+        if self.draws.one_in(2) {
+            self.tallied();
+        }
+        self.unheard();
+        let mode1 = any_mode(self.draws) & !3 | 1;
+        self.call(Call::Write(2, mode1));
+        self.call(Call::Write(2, 0));
+        self.call(Call::Write(3, 33));
+        self.call(Call::Pins([0, 0, 0]));
+        self.unheard();
+        self.call(Call::Write(3, 37));
+        self.call(Call::Pins([0, 1, 0]));
+        self.unheard();
+        self.call(Call::Pins([0, 0, 0]));
+        self.hear(true);
+        self.read_again();
+        self.refuse();
+        self.hear(false);
+        self.hear(false);
+        self.blink();
+        self.past_the_wrap();
+        self.starts();
+        self.call(Call::Reset);
+        for look in Call::OF_TALLIES {
+            self.call(look);
+        }
+    }
+
+    /// Receive ticks that nothing is heard of, and what they counted.
+    fn unheard(&mut self) {
+        for _ in 0..self.draws.between(1, 4) {
+            let level = self.draws.below(2) as u8;
+            self.call(Call::Receive(level));
+        }
+        self.call(Call::ReceiveTally);
+    }
+
+    /// A character, maybe behind its mark, and its stamp.
+    fn hear(&mut self, mark: bool) {
+        let mut levels = numbers(frame(&self.format(), self.draws.byte()));
+        if mark {
+            levels.insert(0, 1);
+        }
+        for level in levels {
+            self.call(Call::Receive(level));
+        }
+        self.call(Call::Stamp);
+    }
+
+    /// A character before the receive tally wraps, and one in which it does so, or
+    /// behind that; likewise two frames.
+    fn past_the_wrap(&mut self) {
+        let length = self.format().frame_length();
+        let mut bytes = self.lent.settled().bytes();
+        for place in [TRANSMIT_TALLY, RECEIVE_TALLY] {
+            let first = length + self.draws.between(1, length);
+            set_number(&mut bytes, place, u32::MAX - first);
+        }
+        self.add(Line::Device(None, bytes));
+        self.hear(true);
+        self.hear(false);
+        self.call(Call::ReceiveTally);
+        for _ in 0..2 {
+            let value = self.draws.byte();
+            self.call(Call::Write(0, value));
+            (0..=length).for_each(|_| drop(self.call(Call::Transmit)));
+            self.call(Call::Start);
+        }
+        self.call(Call::TransmitTally);
+    }
+
+    /// A frame, then mark, a break and its guard, which begin none, and what its start
+    /// is behind each.
+    fn starts(&mut self) {
+        let value = self.draws.byte();
+        self.call(Call::Write(0, value));
+        for (command, most) in [(37, 1), (37, 40), (45, 3), (37, 1)] {
+            self.call(Call::Write(3, command));
+            self.transmits(most);
+            self.call(Call::Start);
         }
     }
 
@@ -168,6 +267,9 @@ impl Run<'_> {
             2..=5 => drop(self.call(Call::Reset)),
             _ => {}
         }
+        if self.draws.one_in(3) {
+            self.tallied();
+        }
         self.call(Call::Read(3));
         self.call(Call::Write(2, mode1));
         let mode2 = self.draws.byte() & self.draws.of(&[15, 207, 255, 255]);
@@ -180,6 +282,21 @@ impl Run<'_> {
         self.call(Call::Receive(1));
         self.call(Call::Write(0, value));
         self.levels = numbers(frame(&self.format(), !value)).into();
+    }
+
+    /// The device as it is but for its tallies and stamps, which are any; most often a
+    /// tally wraps soon.
+    fn tallied(&mut self) {
+        let mut bytes = self.lent.settled().bytes();
+        for place in [START, STAMP] {
+            set_number(&mut bytes, place, tally(self.draws));
+        }
+        for place in [TRANSMIT_TALLY, RECEIVE_TALLY] {
+            let soon = u32::MAX - self.draws.below(self.format().frame_length());
+            let any = tally(self.draws);
+            set_number(&mut bytes, place, self.draws.of(&[soon, soon, soon, any]));
+        }
+        self.add(Line::Device(None, bytes));
     }
 
     /// The format that is received in; any where no mode is set.
@@ -236,12 +353,12 @@ impl Run<'_> {
     }
 
     fn transmit(&mut self) {
-        self.sent = self.call(Call::Transmit)[0];
+        self.sent = self.call(Call::Transmit)[0] as u8;
     }
 
     /// Both ticks, with a level that is not refused.
     fn tick(&mut self, level: u8) {
-        self.sent = self.call(Call::Tick(level))[1];
+        self.sent = self.call(Call::Tick(level))[1] as u8;
     }
 
     /// The next level on the line; a new piece of the recording where it is over.
@@ -255,7 +372,7 @@ impl Run<'_> {
 
     /// What a host does all the time.
     fn attend(&mut self) {
-        let call = match self.draws.below(11) {
+        let call = match self.draws.below(14) {
             0..=2 => Call::Write(0, self.draws.byte()),
             3..=4 => Call::Read(1),
             5 => Call::Read(0),
@@ -263,6 +380,7 @@ impl Run<'_> {
             7 => Call::Outputs,
             8 => Call::Peek,
             9 => Call::InRange,
+            10..=12 => self.draws.of(&Call::OF_TALLIES),
             _ => Call::Tick(self.level()),
         };
         self.call(call);
@@ -270,7 +388,7 @@ impl Run<'_> {
 
     /// What it does seldom, or never.
     fn disturb(&mut self) {
-        let call = match self.draws.below(18) {
+        let call = match self.draws.below(21) {
             0 => Call::Reset,
             1..=2 => Call::Write(2, self.draws.byte()),
             3..=4 => Call::Write(2, any_mode(self.draws)),
@@ -285,6 +403,9 @@ impl Run<'_> {
             14 => Call::Write(self.draws.byte(), self.draws.byte()),
             15 => Call::Tick(self.draws.between(2, 255) as u8),
             16 => return self.glance(),
+            17 => return self.refuse(),
+            18 => return self.read_again(),
+            19 => return self.tallied(),
             _ => Call::Write(1, self.draws.byte()),
         };
         self.call(call);
@@ -296,6 +417,7 @@ impl Run<'_> {
         let factor = self.format().factor;
         self.call(Call::Write(3, 45));
         self.transmits(3);
+        self.call(Call::Start);
         let value = self.draws.byte();
         self.call(Call::Write(0, value));
         if self.draws.one_in(2) {
@@ -304,6 +426,7 @@ impl Run<'_> {
         }
         self.call(Call::Write(3, 37));
         self.transmits(factor + 2);
+        self.call(Call::Start);
     }
 
     /// One to `most` transmit ticks.
@@ -322,20 +445,48 @@ impl Run<'_> {
         }
     }
 
-    /// Receive off and on again with no tick between; RHR gives its character
-    /// again.
+    /// Receive off and on again, most often with no tick between; RHR gives its
+    /// character again, and that has its stamp.
     fn blink(&mut self) {
         self.call(Call::Write(3, 33));
+        if self.draws.one_in(3) {
+            let level = self.level();
+            self.call(Call::Receive(level));
+            self.call(Call::ReceiveTally);
+        }
         self.call(Call::Write(3, 37));
+        self.call(Call::Stamp);
         self.call(Call::Read(0));
+        self.call(Call::Stamp);
+    }
+
+    /// A tick that is refused, between two looks at what it would have counted in.
+    fn refuse(&mut self) {
+        let level = self.draws.between(2, 255) as u8;
+        let tick = self.draws.of(&[Call::Receive(level), Call::Tick(level)]);
+        let looks = [Call::TransmitTally, Call::ReceiveTally, Call::Stamp];
+        looks.into_iter().for_each(|look| drop(self.call(look)));
+        self.call(tick);
+        looks.into_iter().for_each(|look| drop(self.call(look)));
+    }
+
+    /// The character and its stamp, and both again.
+    fn read_again(&mut self) {
+        for _ in 0..2 {
+            self.call(Call::Read(0));
+            self.call(Call::Stamp);
+        }
     }
 }
 
-/// The bytes of a device just reset, its inputs high, with one that is out of
-/// range, as often as not just so.
+/// The bytes of a device just reset, its inputs high, with any tallies, and with one
+/// byte that is out of range, as often as not just so.
 fn one_wrong_byte(draws: &mut Draws) -> [u8; DEVICE_BYTES] {
     let mut bytes = [0; DEVICE_BYTES];
     bytes[9..=11].fill(1);
+    for place in [START, TRANSMIT_TALLY, STAMP, RECEIVE_TALLY] {
+        set_number(&mut bytes, place, tally(draws));
+    }
     let places: Vec<(usize, u8)> = LEAST_OUT_OF_RANGE
         .iter()
         .flat_map(|&(first, last, least)| (first..=last).map(move |place| (place, least)))

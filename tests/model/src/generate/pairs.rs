@@ -15,7 +15,7 @@ use crate::pair::lines::Line;
 use crate::pair::{Answer, Call, Pair, RUN_LIMIT};
 use crate::session::{other, Unit, UNITS};
 
-pub const RUNS: u32 = 120;
+pub const RUNS: u32 = 140;
 /// The runs of waits, whose seeds come behind those.
 pub const WAIT_RUNS: u32 = 60;
 /// A run ends with the episode that brings it over this number of lines.
@@ -84,7 +84,7 @@ impl Run<'_> {
         }
     }
 
-    fn on(&mut self, unit: Unit, call: ChipCall) -> Vec<u16> {
+    fn on(&mut self, unit: Unit, call: ChipCall) -> Vec<u32> {
         self.call(Call::On(unit, call)).1
     }
 
@@ -204,7 +204,7 @@ impl Run<'_> {
         }
         let mut bytes = bytes;
         // The mode pointer, the SYN pointer, DSR, a flag or a mark.
-        let place = self.draws.of(&[7, 8, 9, 38, 39, 40, 41, 42]);
+        let place = self.draws.of(&[7, 8, 9, 56, 57, 58, 59, 60]);
         bytes[place] = self.draws.between(3, 255) as u8;
         bytes
     }
@@ -278,8 +278,13 @@ impl Run<'_> {
         self.on(unit, ChipCall::Write(2, mode1));
     }
 
-    /// The status, and what has come, where something has.
+    /// The status, and what has come, where something has; now and then a tally, or
+    /// what it stamped.
     fn look(&mut self, unit: Unit) {
+        if self.draws.one_in(4) {
+            let look = self.draws.of(&ChipCall::OF_TALLIES);
+            self.on(unit, look);
+        }
         let status = self.on(unit, ChipCall::Read(1))[1];
         if status & 2 != 0 && !self.draws.one_in(3) {
             self.on(unit, ChipCall::Read(0));

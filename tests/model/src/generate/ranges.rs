@@ -3,7 +3,8 @@
 
 use super::any_mode;
 use crate::calls::DEVICE_BYTES;
-use crate::chip::{decode, format_bytes};
+use crate::chip::{decode, format_bytes, set_number};
+use crate::chip::{RECEIVE_TALLY, STAMP, START, TRANSMIT_TALLY};
 use crate::draw::Draws;
 use crate::ranges::{bits_before, in_range, ticks_to};
 use crate::Format;
@@ -33,15 +34,31 @@ fn level(draws: &mut Draws) -> u8 {
 /// A device in range.
 pub fn device(draws: &mut Draws) -> [u8; DEVICE_BYTES] {
     let mut bytes = [(); DEVICE_BYTES].map(|()| level(draws));
-    for any in [1, 4, 5, 6, 35] {
+    for any in [1, 4, 5, 6, 43] {
         bytes[any] = draws.byte();
     }
     bytes[0] = bytes[2] * any_mode(draws);
     bytes[3] = draws.byte() & 0b0010_1111;
     bytes[8] = draws.below(3) as u8;
     bytes[12..23].copy_from_slice(&sender(draws));
-    bytes[24..35].copy_from_slice(&receiver(draws));
+    bytes[32..43].copy_from_slice(&receiver(draws));
+    for place in [START, TRANSMIT_TALLY, STAMP, RECEIVE_TALLY] {
+        set_number(&mut bytes, place, tally(draws));
+    }
     bytes
+}
+
+/// Any number, or one that a run of ticks takes past 2^32, or from there.
+pub fn tally(draws: &mut Draws) -> u32 {
+    let any = u32::from_le_bytes([(); 4].map(|()| draws.byte()));
+    let near = draws.below(2000);
+    draws.of(&[
+        any,
+        near,
+        u32::MAX - near,
+        u32::MAX - near % 64,
+        u32::MAX - near % 3,
+    ])
 }
 
 fn format(draws: &mut Draws) -> Format {
@@ -110,12 +127,12 @@ pub fn out_of_range(draws: &mut Draws) -> [u8; DEVICE_BYTES] {
             // Transmit and receive on, nothing waiting, a character unread.
             bytes[3] |= 5;
             bytes[20..22].fill(0);
-            bytes[36] = 1;
+            bytes[44] = 1;
         }
     }
     if in_range(&bytes) {
         // The mode pointer, a pin, a flag or a mark.
-        bytes[draws.of(&[7, 9, 11, 38, 42])] = draws.between(2, 255) as u8;
+        bytes[draws.of(&[7, 9, 11, 56, 60])] = draws.between(2, 255) as u8;
     }
     bytes
 }

@@ -25,6 +25,10 @@ const RESET_ERROR: u8 = 16;
 
 pub fn session(draws: &mut Draws, index: u32) -> Vec<u8> {
     let mut script = Script::new();
+    // Ticks before there is a mode count in the tallies too.
+    if draws.one_in(6) {
+        script.tick(draws.between(1, 40));
+    }
     let mode = accepted_mode(index);
     let mode2 = mode2(draws);
     set_up(&mut script, Unit::A, mode, mode2);

@@ -4,7 +4,7 @@ use crate::chip::{decode, set_up, RECEIVE};
 use crate::generate::{accepted_mode, ACCEPTED_MODES};
 use crate::{frame, Format};
 
-/// The bytes of a receiver's state and of its format: 24 to 34 of a device.
+/// The bytes of a receiver's state and of its format: 32 to 42 of a device.
 pub type Receiver = [u8; 11];
 
 /// The receiver of a chip with these modes that has its mark and then hears some levels.
@@ -14,7 +14,7 @@ pub fn heard(mode1: u8, mode2: u8, levels: &[bool]) -> Receiver {
     for &level in levels {
         chip.receive(level.into());
     }
-    let bytes = &chip.bytes()[24..35];
+    let bytes = &chip.bytes()[32..43];
     bytes.try_into().expect("eleven bytes")
 }
 

@@ -3,11 +3,13 @@
 //!
 //! `ticks` is what happens in a tick of a run, `ways` what a run does on each of its two
 //! ways, by the `facts` that are counted of it, `step` where a receiver stands to the
-//! frame that it hears. `waits` is what a wait does, `hosts` what only a host's has.
+//! frame that it hears. `waits` is what a wait does, `hosts` what only a host's has, and
+//! `tallies` what both do to the tallies.
 
 mod facts;
 mod hosts;
 mod step;
+mod tallies;
 mod ticks;
 pub mod waits;
 mod ways;
@@ -53,7 +55,16 @@ const RANGES: [&str; 4] = [
 ];
 
 /// The chip's calls between the others.
-const OF_CHIPS: [&str; 4] = ["reset", "read", "write", "pins"];
+const OF_CHIPS: [&str; 8] = [
+    "reset",
+    "read",
+    "write",
+    "pins",
+    "stamp",
+    "start",
+    "transmit_tally",
+    "receive_tally",
+];
 
 pub struct Reach {
     counts: Counts,
@@ -73,6 +84,7 @@ impl Reach {
         counts.name_places(UNITS.len(), [by_end("refused")]);
         ways::name(&mut counts);
         hosts::name(&mut counts);
+        tallies::name(&mut counts);
         Reach { counts }
     }
 
@@ -111,7 +123,9 @@ impl Reach {
             }
             Call::Run(ticks) => self.ran(pair, ticks, shown),
             Call::Wait(number, limit) if shown => {
-                hosts::watch(&mut self.counts, pair, number, limit)
+                let before = pair.clone();
+                hosts::watch(&mut self.counts, pair, number, limit);
+                tallies::watch(&mut self.counts, "wait", &before, pair);
             }
             Call::Wait(..) => drop(pair.call(&call)),
             Call::On(unit, of_chip) => {
@@ -143,14 +157,17 @@ impl Reach {
         };
         self.on_ranges(called, pair, shown);
         let in_range = range(pair) == RANGES[0];
-        let mut after = pair.clone();
-        after.tick();
-        self.counts
-            .count_if(in_range && after != *pair, &would_go_on(called));
-        self.counts
-            .count_if(in_range && after == *pair, &stands(called));
+        let name = match pair.stands() {
+            true => stands(called),
+            false => would_go_on(called),
+        };
+        self.counts.count_if(in_range, &name);
+        let before = pair.clone();
         if (1..=RUN_LIMIT).contains(&ticks) {
             ways::watch(&mut self.counts, pair, ticks);
+            tallies::watch(&mut self.counts, "run", &before, pair);
+        } else {
+            tallies::left(&mut self.counts, called, pair);
         }
     }
 
@@ -175,14 +192,14 @@ fn on_range(called: &str, range: &str) -> String {
 }
 
 fn would_go_on(called: &str) -> String {
-    format!("{called} of a pair in range that a tick changes, shown")
+    format!("{called} of a pair in range in which a tick moves more than tallies, shown")
 }
 
 fn stands(called: &str) -> String {
-    format!("{called} of a pair in range that no tick changes, shown")
+    format!("{called} of a pair in range in which a tick moves tallies alone, shown")
 }
 
-fn answer(levels: u16) -> String {
+fn answer(levels: u32) -> String {
     format!("tick that answers {levels}")
 }
 

@@ -37,7 +37,7 @@ fn long_one_short(pair: &mut Pair, call: &Call) -> Answer {
     })
 }
 
-/// No run shows a tick more or less here: two frames are over long before.
+/// Two frames are over long before: but for the tallies nothing shows it.
 fn longest_cut(pair: &mut Pair, call: &Call) -> Answer {
     match *call {
         Call::Run(RUN_LIMIT) => pair.call(&Call::Run(700)),
@@ -73,10 +73,8 @@ fn cut(pair: &mut Pair, call: &Call) -> Answer {
 }
 
 fn standing_takes_any(pair: &mut Pair, call: &Call) -> Answer {
-    let mut after = pair.clone();
-    after.tick();
     match *call {
-        Call::Run(ticks) if ticks > RUN_LIMIT && after == *pair => refused(0),
+        Call::Run(ticks) if ticks > RUN_LIMIT && pair.stands() => refused(0),
         _ => pair.call(call),
     }
 }

@@ -9,6 +9,7 @@ mod ranges;
 mod receivers;
 mod senders;
 mod step;
+mod tallies;
 mod waits;
 
 use model::calls::{Lent, DEVICE_BYTES};
@@ -28,12 +29,13 @@ pub fn all() -> Vec<Wrong> {
         receivers::ALL,
         edges::ALL,
         step::ALL,
+        tallies::ALL,
     ]
     .concat()
 }
 
 pub fn all_waits() -> Vec<Wrong> {
-    [waits::ALL, limits::ALL].concat()
+    [waits::ALL, limits::ALL, tallies::WAITS].concat()
 }
 
 /// Waits that are done otherwise, by the ticks that they say they spend; other calls are
@@ -42,7 +44,7 @@ fn waited(pair: &mut Pair, call: &Call, wait: impl Fn(&mut Pair, Unit, u32) -> u
     match *call {
         Call::Wait(number, limit @ ..=WAIT_LIMIT) => {
             let spent = wait(pair, named(number), limit);
-            (0, vec![0, spent])
+            (0, vec![0, spent.into()])
         }
         _ => pair.call(call),
     }
@@ -100,12 +102,13 @@ const CTS: usize = 11;
 const PLACE: usize = 18;
 const FULL: usize = 21;
 const GUARD: usize = 22;
-const PHASE: usize = 24;
-const UNREAD: usize = 36;
-const FRAMING: usize = 38;
-const OVERRUN: usize = 39;
-const PARITY: usize = 40;
-const EMPTY_MARK: usize = 41;
+const PHASE: usize = 32;
+const HOLDING: usize = 43;
+const UNREAD: usize = 44;
+const FRAMING: usize = 56;
+const OVERRUN: usize = 57;
+const PARITY: usize = 58;
+const EMPTY_MARK: usize = 59;
 
 // The bits of the command.
 const TRANSMIT: u8 = 1;

@@ -1,7 +1,7 @@
 //! Receivers that a run takes on otherwise than ticks do.
 
 use super::{behind_ticks, change, ran, settle, Bytes, Wrong};
-use super::{COMMAND, FRAMING, OVERRUN, PARITY, PHASE, RECEIVE, UNREAD};
+use super::{COMMAND, FRAMING, HOLDING, OVERRUN, PARITY, PHASE, RECEIVE, UNREAD};
 use model::pair::{Answer, Call, Pair};
 use model::session::UNITS;
 
@@ -51,7 +51,7 @@ fn not_unread(pair: &mut Pair, call: &Call) -> Answer {
 fn first_kept(pair: &mut Pair, call: &Call) -> Answer {
     behind_ticks(pair, call, |before, after| {
         if before[UNREAD] == 1 {
-            after[35] = before[35];
+            after[HOLDING] = before[HOLDING];
         }
     })
 }
@@ -59,7 +59,7 @@ fn first_kept(pair: &mut Pair, call: &Call) -> Answer {
 fn off_keeps(pair: &mut Pair, call: &Call) -> Answer {
     behind_ticks(pair, call, |before, after| {
         if before[COMMAND] & RECEIVE == 0 && before[PHASE] == 2 {
-            after[24..35].copy_from_slice(&before[24..35]);
+            after[32..43].copy_from_slice(&before[32..43]);
         }
     })
 }
@@ -97,10 +97,10 @@ fn waits_for_nothing(pair: &mut Pair, call: &Call) -> Answer {
 /// In a run of many ticks, a look at a bit of the data takes a 1.
 fn look_passed_over(pair: &mut Pair, call: &Call) -> Answer {
     behind_ticks(pair, call, |before, after| {
-        let looked = before[PHASE] == 2 && before[25] == 0 && after[PHASE] == 2;
-        let bit = before[28].wrapping_sub(1);
-        if looked && before[30] > 1 && bit < before[31] {
-            after[26] |= 1 << bit;
+        let looked = before[PHASE] == 2 && before[33] == 0 && after[PHASE] == 2;
+        let bit = before[36].wrapping_sub(1);
+        if looked && before[38] > 1 && bit < before[39] {
+            after[34] |= 1 << bit;
         }
     })
 }

@@ -42,7 +42,7 @@ fn overlooked<const FIRST: usize, const LAST: usize>(pair: &mut Pair, call: &Cal
             let leaps = step.filter(|(_, left)| *left <= ticks);
             change(pair, unit, |bytes| {
                 let mut near = *bytes;
-                let receiver = &mut near[24..34];
+                let receiver = &mut near[32..42];
                 if let Some((step, _)) = leaps {
                     receiver[FIRST..=LAST].copy_from_slice(&step[FIRST..=LAST]);
                     if receiver == &step[..10] && step[0] == 2 {

@@ -237,10 +237,12 @@ impl Draws {
     }
 }
 
-/// A channel of any bytes, and another number and select.
+/// A channel of any bytes, one whose tallies wrap soon, and another number and select.
 fn spoil(draws: &mut Draws, rig: &mut Rig) {
     let channel = draws.below(CHANNELS as u32) as usize;
     rig.room[channel] = Device::of_bytes([(); DEVICE_BYTES].map(|()| draws.byte()));
+    let channel = draws.below(CHANNELS as u32) as usize;
+    rig.room[channel].set_tallies([(); 2].map(|()| draws.below(16).wrapping_neg()));
     rig.board.number = draws.small(2);
     rig.board.select = (draws.byte() & 231) | (8 * (rig.board.number & 3));
 }

@@ -11,6 +11,7 @@ fn main() {
         "break" => broken(500),
         "whole_idle" => whole_idle(),
         "whole_unset" => whole_unset(),
+        "lead" => lead(),
         "full1" => full(&FULL_1, 13_000),
         "full16" => full(&FULL_16, 13_000),
         "full64" => full(&FULL_64, 13_000),

@@ -120,6 +120,6 @@ pub fn own_bits(room: &[Lent], bit: u8) -> u8 {
         Lent::InRange(_) => false,
         Lent::OutOfRange(bytes) if bit == TRANSMIT_READY => bytes[3] & 1 == 1 && bytes[21] == 0,
         // Not 2 and more, which need not be taken for an unread character.
-        Lent::OutOfRange(bytes) => bytes[36] == 1,
+        Lent::OutOfRange(bytes) => bytes[44] == 1,
     })
 }

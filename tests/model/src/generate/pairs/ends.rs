@@ -180,10 +180,10 @@ pub fn ends(draws: &mut Draws) -> [[u8; DEVICE_BYTES]; 2] {
     let tries = if nears { TRIES } else { 0 };
     [0, 1].map(|end| {
         let mut bytes = switched(draws, &modes[end], &sendings[end]);
-        bytes[24..35].copy_from_slice(&heard[end]);
+        bytes[32..43].copy_from_slice(&heard[end]);
         for _ in 0..tries {
             let mut near = bytes;
-            near[24..35].copy_from_slice(&nearly(draws, &heard[end]));
+            near[32..43].copy_from_slice(&nearly(draws, &heard[end]));
             if in_range(&near) && near != bytes {
                 return near;
             }
@@ -230,8 +230,8 @@ pub fn silent(draws: &mut Draws) -> [[u8; DEVICE_BYTES]; 2] {
         }
         // The receiver waits, or searches.
         if draws.one_in(2) {
-            bytes[24..35].fill(0);
-            bytes[24] = draws.below(2) as u8;
+            bytes[32..43].fill(0);
+            bytes[32] = draws.below(2) as u8;
         }
     }
     both

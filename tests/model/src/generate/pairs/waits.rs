@@ -12,7 +12,7 @@ use crate::session::{other, Unit, UNITS};
 use crate::wait::WAIT_LIMIT;
 
 /// The byte that says whether a character is unread (docs/RANGES.md).
-const UNREAD: usize = 36;
+const UNREAD: usize = 44;
 /// The ticks within which it is looked for when a character comes.
 const SOON: u32 = 800;
 
@@ -93,7 +93,7 @@ impl Run<'_> {
             let mut both = ends::ends(self.draws);
             // A receiver that waits for a 1, maybe within a frame.
             if self.draws.one_in(4) {
-                both[unit as usize][24..35].fill(0);
+                both[unit as usize][32..43].fill(0);
             }
             self.set_unread(both, unit);
             for _ in 0..self.draws.of(&[1, 1, 2, 3]) {

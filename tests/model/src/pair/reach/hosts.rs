@@ -37,7 +37,7 @@ const RANGES: [&str; 4] = [
 /// One that is out of range and whose bytes say that a character is unread.
 const MARKED: &str = "its unit out of range and marked unread";
 /// The byte of the mark (docs/RANGES.md).
-const UNREAD: usize = 36;
+const UNREAD: usize = 44;
 /// Which no run from reset leaves with a character unread.
 const RECEIVE_OFF: &str = "receive off at its unit";
 

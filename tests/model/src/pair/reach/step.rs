@@ -66,7 +66,7 @@ pub fn standing(
     receiver: &[u8; DEVICE_BYTES],
 ) -> Option<&'static str> {
     let sent = Sent::of(sender)?;
-    let receiver: Receiver = receiver[24..35].try_into().expect("eleven bytes");
+    let receiver: Receiver = receiver[32..43].try_into().expect("eleven bytes");
     let right = sent.hearer(sent.place);
     let differ = |place: &usize| receiver[*place] != right[*place];
     let mut others: Vec<usize> = (0..receiver.len()).filter(differ).collect();

@@ -108,7 +108,7 @@ fn set_up(draws: &mut Draws, pair: &mut Pair) -> Result<(), String> {
     Ok(())
 }
 
-/// A pair in which a device is another one in range, or has one byte or two spoilt.
+/// A pair in which a device is another one in range, or has one byte or two spoilt; now and then with tallies that wrap soon.
 fn changed(draws: &mut Draws, pair: &Pair) -> Pair {
     let mut changed = *pair;
     let changes = 1 + draws.below(2);
@@ -120,6 +120,12 @@ fn changed(draws: &mut Draws, pair: &Pair) -> Pair {
             place.spoil(draws.below(DEVICE_BYTES as u32) as usize, value);
         } else {
             *place = Device::of_bytes(device(draws));
+        }
+    }
+    if draws.one_in(4) {
+        for unit in [A, B] {
+            let tallies = [(); 2].map(|()| draws.below(1600).wrapping_neg());
+            changed.device(unit).set_tallies(tallies);
         }
     }
     changed

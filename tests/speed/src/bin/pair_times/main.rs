@@ -25,6 +25,8 @@ trait Side {
     fn run(&mut self, n: u16);
     /// The ticks that it took.
     fn wait(&mut self, unit: Unit, limit: u16) -> u16;
+    /// When the held character came, and when the last frame began.
+    fn stamps(&mut self, unit: Unit) -> [u32; 2];
 }
 
 struct Plain {
@@ -75,6 +77,11 @@ impl Side for Plain {
             A => joined_wait(&mut self.b, &mut self.a, limit),
             B => joined_wait(&mut self.a, &mut self.b, limit),
         }
+    }
+
+    fn stamps(&mut self, unit: Unit) -> [u32; 2] {
+        let chip = self.chip(unit);
+        [chip.stamp(), chip.frame_start()]
     }
 }
 
@@ -199,7 +206,8 @@ impl Row {
         side
     }
 
-    /// The traffic, so many times; the checksum of all that is read, with both status bytes.
+    /// The traffic, so many times; the checksum of all that is read, with all stamps and both status bytes. (The tallies are
+    /// other ones where a side has more of the traffic.)
     fn batch<S: Side>(&self, side: &mut S, times: usize) -> u32 {
         let mut sum = 0;
         match self.traffic {
@@ -238,6 +246,8 @@ impl Row {
                 }
             }
         }
+        let stamps = [A, B].into_iter().flat_map(|unit| side.stamps(unit));
+        sum = stamps.fold(sum, |sum, stamp| summed(sum, stamp));
         read_both(side, 1, sum)
     }
 

@@ -70,4 +70,9 @@ impl Side for Proved {
     fn wait(&mut self, unit: Unit, limit: u16) -> u16 {
         joined_wait(&mut self.0, unit, limit.into()) as u16
     }
+
+    fn stamps(&mut self, unit: Unit) -> [u32; 2] {
+        let device = self.0.device(unit);
+        [device.stamp(), device.frame_start()]
+    }
 }
