@@ -12,7 +12,7 @@ use Rattle.ins2651_rules.specs.declared.Device.{Device}
 use Rattle.ins2651_rules.specs.declared.Answer.{Answer}
 use Rattle.ins2651_rules.specs.declared.Outcome.{Outcome}
 use Rattle.ins2651_rules.specs.declared.Ticked.{Ticked}
-use Rattle.ins2651_rules.specs.Shape.{resetDevice, sendCounted, hearCounted, bothCounted, done}
+use Rattle.ins2651_rules.specs.Shape.{resetDevice, sendCounted, hearCounted, deviceLater, done}
 use Rattle.ins2651_rules.specs.Ranges.{inRange, settled}
 use Rattle.ins2651_rules.specs.RegisterReads.{readHolding, readStatus, readRegister, read}
 use Rattle.ins2651_rules.specs.RegisterWrites.{writeHolding, writeRegister, write}
@@ -83,7 +83,7 @@ abbrev pub ticks-both : Promise 1
 ticks-both = record { answers = λ d xs. bothTicks d (xs .0) .answer; leaves = λ d xs. bothTicks d (xs .0) .device }
 
 abbrev pub counts-both : Promise 1
-counts-both = record { answers = λ d xs. 1; leaves = λ d xs. bothCounted d }
+counts-both = record { answers = λ d xs. 1; leaves = λ d xs. deviceLater 1 d }
 
 abbrev pub hears-and-sends : Promise 1
 hears-and-sends = record { answers = λ d xs. ticked d (xs .0) .answer; leaves = λ d xs. ticked d (xs .0) .device }

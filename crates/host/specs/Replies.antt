@@ -6,7 +6,7 @@ use Rattle.line_rules.specs.Sending.{on}
 use Rattle.ins2651_rules.specs.declared.Device.{Device}
 use Rattle.ins2651_rules.specs.declared.Answer.{Answer}
 use Rattle.ins2651_rules.specs.declared.OutputPins.{OutputPins}
-use Rattle.ins2651_rules.specs.Shape.{resetDevice, sendCounted, hearCounted, bothCounted}
+use Rattle.ins2651_rules.specs.Shape.{resetDevice, sendCounted, hearCounted, deviceLater}
 use Rattle.ins2651_rules.specs.Refusals.{readRefusal, writeRefusal, pinsRefusal, levelRefusal}
 use Rattle.ins2651_rules.specs.RegisterReads as RegisterReads
 use Rattle.ins2651_rules.specs.RegisterWrites as RegisterWrites
@@ -73,7 +73,7 @@ abbrev pub countedHear : Device → ℕ → Reply
 countedHear d level = done (hearCounted d)
 
 abbrev pub countedBoth : Device → ℕ → Reply
-countedBoth d level = record { answer = 1; device = bothCounted d }
+countedBoth d level = record { answer = 1; device = deviceLater 1 d }
 
 -- a receive tick and both ticks that only count where their test holds: of a device in range nothing else comes of it (`heard-is-tick`, `ticked-is-both`)
 abbrev pub heard : Device → ℕ → Device

@@ -5,7 +5,7 @@
 ghost use mathlib.Core.Path.{_≡_};
 ghost use denote.Ref.{now};
 ghost use Rattle.line_rules.specs.Sending.{bit, on};
-ghost use Rattle.ins2651_rules.specs.Shape.{resetDevice, sendCounted, hearCounted, bothCounted};
+ghost use Rattle.ins2651_rules.specs.Shape.{resetDevice, sendCounted, hearCounted, deviceLater};
 ghost use Rattle.ins2651_rules.specs.Ranges.{inRange, settled};
 ghost use Rattle.ins2651_rules.specs.RegisterReads;
 ghost use Rattle.ins2651_rules.specs.RegisterReads.{readHolding, readStatus, readRegister};
@@ -134,7 +134,7 @@ fn counted_hear(mut d: Device, level: u8) -> Reply
 fn counted_both(mut d: Device, level: u8) -> Reply
     ensures { λ r. ⌜ r ≡ Replies.countedBoth d level ⌝ }
 {
-    let both = ins2651::count_both(d);
+    let both = ins2651::later(d, 1);
     d.sender.tally.0 = both.sender.tally.0;
     d.receiver.tally.0 = both.receiver.tally.0;
     Reply {
@@ -181,13 +181,15 @@ fn start(d: Device) -> u32
 fn transmit_tally(d: Device) -> u32
     ensures { λ r. ⌜ r ≡ d .sender .tally .0 ⌝ }
 {
-    d.sender.tally.0
+    let sent = d.sender.tally;
+    sent.0
 }
 
 fn receive_tally(d: Device) -> u32
     ensures { λ r. ⌜ r ≡ d .receiver .tally .0 ⌝ }
 {
-    d.receiver.tally.0
+    let heard = d.receiver.tally;
+    heard.0
 }
 
 // == what a refused call answers of a device in range, and 0 where nothing is refused ==
@@ -388,7 +390,7 @@ fn both_ticks(d: &mut Device, level: u8) -> u16
 }
 
 fn count_both(d: &mut Device, level: u8) -> u16
-    ensures { λ r. ⌜ (r ≡ 1) × (now (d .exit) ≡ bothCounted (now (d .entry))) ⌝ }
+    ensures { λ r. ⌜ (r ≡ 1) × (now (d .exit) ≡ deviceLater 1 (now (d .entry))) ⌝ }
 {
     let before = *d;
     let reply = counted_both(before, level);

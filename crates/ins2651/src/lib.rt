@@ -6,7 +6,7 @@ ghost use mathlib.Core.Path.{_≡_};
 ghost use Prim.Native.Nat.{_≤_};
 ghost use Rattle.line_rules.specs.Sending.{bit};
 ghost use Rattle.ins2651_rules.specs.Shape;
-ghost use Rattle.ins2651_rules.specs.Shape.{resetDevice, sendCounted, hearCounted, bothCounted, deviceLater, refusedRead, refused};
+ghost use Rattle.ins2651_rules.specs.Shape.{resetDevice, sendCounted, hearCounted, deviceLater, refusedRead, refused};
 ghost use Rattle.ins2651_rules.specs.Modes;
 ghost use Rattle.ins2651_rules.specs.Modes.{factorOf, stopOf, formatOf, sendFormat, receiveFormat};
 ghost use Rattle.ins2651_rules.specs.Conditions;
@@ -850,13 +850,6 @@ pub fn count_heard(mut d: Device) -> Device
     let counted = link::receiver_later(d.receiver, 1);
     d.receiver = counted;
     d
-}
-
-// What both leave.
-pub fn count_both(d: Device) -> Device
-    ensures { λ r. ⌜ r ≡ bothCounted d ⌝ }
-{
-    later(d, 1)
 }
 
 // What n of both leave.

@@ -16,7 +16,7 @@ use Rattle.link_rules.specs.Transmitting.{idleTick, transmit}
 use Rattle.link_rules.specs.Hearing.{receive}
 use Rattle.link_rules.proofs.AtRest.{is-clear, in-range-clear, stays, rest-stays}
 use Rattle.ins2651_rules.specs.declared.Device.{Device}
-use Rattle.ins2651_rules.specs.Shape.{ticked, sendCounted, hearCounted, bothCounted}
+use Rattle.ins2651_rules.specs.Shape.{ticked, sendCounted, hearCounted, deviceLater}
 use Rattle.ins2651_rules.specs.Modes.{sendFormat, receiveFormat}
 use Rattle.ins2651_rules.specs.Conditions.{mayStart, breakOn, listening}
 use Rattle.ins2651_rules.specs.Ranges.{inRange}
@@ -58,6 +58,6 @@ module _ (d : Device) (h : inRange d ≡ true) (x : ℕ) where
       ∙ rest-stays (d .receiver) 1 true true f (stays true true) (is-clear (d .receiver) 1 p (in-range-clear (d .receiver) (parts d h .receiver) (omega (arith, p)))))
 
   -- both ticks of it
-  pub still-stays : still d x ≡ true → bothTicks d (on x) ≡ ticked 1 (bothCounted d)
+  pub still-stays : still d x ≡ true → bothTicks d (on x) ≡ ticked 1 (deviceLater 1 d)
   unfolding still rests
   still-stays e = let t = both (searches d x) _ e in ap transmitTick (searches-still (t .0)) ∙ rests-still (hearCounted d) (t .1)

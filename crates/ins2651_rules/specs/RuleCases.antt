@@ -1,6 +1,6 @@
--- Rules of document 01 and of requests P1 and P4 as computed scripts, beside the starred bench cases: calls from reset, each with what it answers where that can be seen
--- (proofs/RuleRows.antt). They see the chip through its calls alone, so that a rule that is wrong in its one definition is refused here. What a
--- SYN write stores cannot be seen from outside yet: no call gives it.
+-- Rules of document 01 and of requests P1 and P4 as computed scripts, beside the starred bench cases: calls from reset, each with what it answers
+-- where that can be seen (proofs/RuleRows.antt). They see the chip through its calls alone, so that a rule that is wrong in its one definition is
+-- refused here. What a SYN write stores cannot be seen from outside yet: no call gives it.
 -- Assumes nothing.
 use Prim.Native.Nat.{ℕ, _+_, _-_, _*_}
 use mathlib.Core.Bool.{cond}

@@ -32,17 +32,14 @@ withSender d s f = withParts d (d .registers) (d .pins) s (d .receiver) f
 abbrev pub withReceiver : Device → ReceiverHalf → Flags → Device
 withReceiver d h f = withParts d (d .registers) (d .pins) (d .sender) h f
 
--- with one transmit tick more in its tally, one receive tick more, or one of each (P4)
+-- with one transmit tick more in its tally, or one receive tick (P4)
 abbrev pub sendCounted : Device → Device
 sendCounted d = withSender d (senderLater 1 (d .sender)) (d .flags)
 
 abbrev pub hearCounted : Device → Device
 hearCounted d = withReceiver d (receiverLater 1 (d .receiver)) (d .flags)
 
-abbrev pub bothCounted : Device → Device
-bothCounted d = sendCounted (hearCounted d)
-
--- with n ticks more in both
+-- with n ticks more in each
 abbrev pub deviceLater : ℕ → Device → Device
 deviceLater n d = withParts d (d .registers) (d .pins) (senderLater n (d .sender)) (receiverLater n (d .receiver)) (d .flags)
 

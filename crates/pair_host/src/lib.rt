@@ -102,7 +102,7 @@ fn wait_spared(p: Pair, unit: u32, limit: u32) -> bool
     (65535 < limit) | (limit == 0) | joined::unread(p, unit_of(unit))
 }
 
-// What a wait that leaves the pair as it is answers.
+// What a wait that leaves the pair as it is answers. (It takes all that a wait is given, so that one walk serves it and `wait_spared`.)
 fn wait_told(p: Pair, unit: u32, limit: u32) -> u32
     ensures { λ r. ⌜ r ≡ Replies.waitTold p unit limit ⌝ }
 {
@@ -140,8 +140,8 @@ pub extern "C" fn ins2651_joined_run(p: &mut Pair, n: u32) -> u16
     reply.answer
 }
 
-// Joined ticks until a unit holds an unread character, or the limit is used up; answers 65536 times its refusal plus their count. A pair
-// that stays as it is, is not stored.
+// Joined ticks until a unit holds an unread character, or the limit is used up; answers 65536 times its refusal plus their count. One
+// that spends no tick stores nothing.
 #[no_mangle]
 pub extern "C" fn ins2651_joined_wait(p: &mut Pair, unit: u32, limit: u32) -> u32
     ensures { λ r. ⌜ (r ≡ waitAnswer (Waiting.wait (now (p .entry)) (unitOf unit) limit)) × (now (p .exit) ≡ Waiting.wait (now (p .entry)) (unitOf unit) limit .pair) ⌝ }

@@ -15,7 +15,7 @@ ghost use Rattle.way_rules.specs.Along.{sentBy, heardBy, heardAs, wayTick, wayT
 ghost use Rattle.way_rules.specs.Calm;
 ghost use Rattle.way_rules.specs.Until.{unread, doneUntil};
 ghost use Rattle.way_rules.specs.Leap.{lastLook, soFar, sameBits, bothBusy, inStep, flyAt, leapTicks, looksAhead, leapLooks, doneAtOnce, Narrow, Leaps};
-ghost use Rattle.way_rules.specs.Calm.{placesLeft, senderLevel, senderCalm, bitLeft, senderKeeps, senderMoved, heardCalm, wayCalm, waySkipped, wayLater, senderStands, receiverStands};
+ghost use Rattle.way_rules.specs.Calm.{placesLeft, senderLevel, senderCalm, bitLeft, frameHolds, senderKeeps, senderMoved, heardCalm, wayCalm, waySkipped, wayLater, senderStands, receiverStands};
 use line_rules::Format;
 use line_rules::RxC;
 use link_rules::Frame;
@@ -398,18 +398,17 @@ fn only(t: bool, n: u16) -> u16
     if t { n } else { 0 }
 }
 
-// For how many ticks a frame holds the level p from its place on. A frame in its stop needs no division for its level.
+// For how many ticks a frame holds the level p from its place on. A frame in its stop needs no division.
 fn frame_keeps(g: Frame, p: u8) -> u16
-    ensures { λ r. ⌜ r ≡ cond (eqb p (bit (level (g .format) (g .character) (g .place)))) (bitLeft (g .format) (g .place)) 0 ⌝ }
+    ensures { λ r. ⌜ r ≡ cond (eqb p (bit (level (g .format) (g .character) (g .place)))) (frameHolds g) 0 ⌝ }
 {
-    let f = g.format;
-    let ticks = bit_left(f, g.place);
     if stopping(g) {
-        return only(p == 1, ticks);
+        return only(p == 1, places_left(g));
     }
+    let f = g.format;
     only(
         p == line::number(line::level(f, g.character, g.place)),
-        ticks,
+        bit_left(f, g.place),
     )
 }
 
@@ -598,7 +597,7 @@ fn in_step(w: Way) -> bool
         & (w.receiver.state.value == so_far(g, w.sender.frame.character, w.receiver.state.look))
 }
 
-// How many looks are passed in so many ticks: those that they reach, the stop's at most.
+// How many looks are passed in so many ticks: those that they reach, the stop's at most. Where they reach that one there is no division.
 fn looks_ahead(w: Way, room: u16) -> u16
     ensures { λ q. ⌜ (q ≡ looksAhead w room) × (0 < q → w .receiver .state .look + q ≤ 257) ⌝ }
 {
@@ -616,7 +615,10 @@ fn looks_ahead(w: Way, room: u16) -> u16
     if last <= look {
         return 0;
     }
-    least((room - wait) / ticks, last - look)
+    if ticks * (last - look) <= room - wait {
+        return last - look;
+    }
+    (room - wait) / ticks
 }
 
 // .. of a receiver in step, before the frame's last place.

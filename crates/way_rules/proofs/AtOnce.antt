@@ -6,8 +6,8 @@ use native.Mathlib.Nat.{mul-le-mul-left, mul-comm, le-div-iff-mul-le}
 use native.Mathlib.Omega.{arith}
 use mathlib.Core.Path.{_≡_, refl, ap, ap₂, sym, subst, _∙_}
 use mathlib.Core.Bool.{Bool, true, false, cond, _&&_}
-use lib.Dec.{leb}
-use borrow.Author.Tests.{ltb-true, leb-true, lt-ltb, le-ltb, le-leb, lt-leb}
+use lib.Dec.{ltb, leb}
+use borrow.Author.Tests.{ltb-true, ltb-false, leb-true, lt-ltb, le-ltb, le-leb, lt-leb}
 use Rattle.line_rules.specs.Sending.{on, frameLength}
 use Rattle.line_rules.proofs.Choice.{either, each}
 use Rattle.line_rules.proofs.Table.{both}
@@ -17,7 +17,7 @@ use Rattle.way_rules.specs.declared.Moved.{Moved}
 use Rattle.way_rules.specs.Along.{wayTicks}
 use Rattle.way_rules.specs.Calm.{least, placesLeft, wayCalm}
 use Rattle.way_rules.specs.Leap.{lastLook, bothBusy, inStep, flyAt, leapTicks, Ahead, looksAhead, leapLooks, atOnce, doneAtOnce}
-use Rattle.way_rules.proofs.Branches.{least-both, least-is}
+use Rattle.way_rules.proofs.Branches.{least-first, least-second, least-both, least-is}
 use Rattle.way_rules.proofs.Flown.{leaps}
 
 -- q looks ahead in x ticks or fewer
@@ -134,6 +134,18 @@ module _ (e : Ends) (w : Way) (room : ℕ) where
 
 -- == how many looks, by the code's tests ==
 
+reached : (F x q : ℕ) → 0 < F → F * q ≤ x → q ≤ x / F
+reached F x q f h = le-div-iff-mul-le f .1 (omega (arith, mul-comm F q))
+
+pub not-reached : (F x q : ℕ) → 0 < F → x < F * q → x / F < q
+not-reached F x q f h = go (ltb (x / F) q) refl
+  where
+    go : (b : Bool) → ltb (x / F) q ≡ b → x / F < q
+    go true e = ltb-true (x / F) q e
+    go false e =
+        let m : q * F ≤ x = le-div-iff-mul-le f .0 (ltb-false (x / F) q e) in
+        absurd (omega (arith, mul-comm F q))
+
 module _ (w : Way) (room : ℕ) where
   pub no-factor : w .receiver .format .factor ≡ 0 → 0 ≡ looksAhead w room
   unfolding looksAhead
@@ -155,10 +167,21 @@ module _ (w : Way) (room : ℕ) where
       either (λ (k : ℕ). 0 ≡ k) (on (w .receiver .format .factor) && leb (w .receiver .state .countdown) room)
       (let q : 0 ≡ least x y = omega (arith, least-both x y .second) in q) refl
 
-  pub some-looks : (q : ℕ) → 0 < w .receiver .format .factor → w .receiver .state .countdown ≤ room
-      → q ≡ least ((room - w .receiver .state .countdown) / w .receiver .format .factor) (lastLook (w .receiver .format) - w .receiver .state .look) → q ≡ looksAhead w room
-  unfolding looksAhead
-  some-looks q f k e = e ∙ rw (lt-ltb 0 (w .receiver .format .factor) f, le-leb (w .receiver .state .countdown) room k)
+  -- the last look is in reach, or those that are
+  module _ (last : ℕ) (e : last ≡ lastLook (w .receiver .format)) (f : 0 < w .receiver .format .factor) (k : w .receiver .state .countdown ≤ room) where
+    some-looks : (q : ℕ) → q ≡ least ((room - w .receiver .state .countdown) / w .receiver .format .factor) (last - w .receiver .state .look) → q ≡ looksAhead w room
+    unfolding looksAhead
+    some-looks q h =
+        h
+        ∙ ap (λ (n : ℕ). least ((room - w .receiver .state .countdown) / w .receiver .format .factor) (n - w .receiver .state .look)) e
+        ∙ rw (lt-ltb 0 (w .receiver .format .factor) f, le-leb (w .receiver .state .countdown) room k)
+
+    pub to-the-last : w .receiver .format .factor * (last - w .receiver .state .look) ≤ room - w .receiver .state .countdown → last - w .receiver .state .look ≡ looksAhead w room
+    to-the-last h = some-looks _ (sym (least-second _ _ (reached (w .receiver .format .factor) _ _ f h)))
+
+    pub in-reach : room - w .receiver .state .countdown < w .receiver .format .factor * (last - w .receiver .state .look)
+        → (room - w .receiver .state .countdown) / w .receiver .format .factor ≡ looksAhead w room
+    in-reach h = some-looks _ (sym (least-first _ _ (not-reached (w .receiver .format .factor) _ _ f h)))
 
 module _ (e : Ends) (w : Way) (room : ℕ) where
   pub leaps-none : (e .live && bothBusy w && inStep w) ≡ false → 0 ≡ leapLooks e w room

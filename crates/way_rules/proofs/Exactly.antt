@@ -31,8 +31,9 @@ use Rattle.link_rules.proofs.Halves.{length-bound, frame-ends, off-leaves, rece
 use Rattle.way_rules.specs.declared.Ends.{Ends}
 use Rattle.way_rules.specs.declared.Way.{Way}
 use Rattle.way_rules.specs.Along.{sent, wayTick}
-use Rattle.way_rules.specs.Calm.{breaks, placesLeft, senderCalm, senderLevel, senderHolds, senderKeeps, senderMoved, senderSkipped, receiverCalm, lowered, receiverSkipped, wayCalm, waySkipped, Exactly}
+use Rattle.way_rules.specs.Calm.{breaks, placesLeft, senderCalm, stopping, senderLevel, senderHolds, senderKeeps, senderMoved, senderSkipped, receiverCalm, lowered, receiverSkipped, wayCalm, waySkipped, Exactly}
 use Rattle.way_rules.proofs.Branches.{least-above}
+use Rattle.way_rules.proofs.Senders.{frame-calm}
 use Rattle.way_rules.proofs.Ways.{skips}
 
 -- == the sender ==
@@ -69,18 +70,20 @@ frame-left g b h = go (ltb (suc (g .place)) (frameLength (g .format))) refl
         absurd (omega arith)
 
 module _ (e : Ends) (s : SenderHalf) (ok : senderInRange s ≡ true) where
-  -- a level lasts for a tick: F is not 0
-  holds-some : 1 ≤ senderHolds e s
+  -- a level lasts for a tick that only counts: F is not 0
+  holds-some : 1 ≤ senderCalm e s → 1 ≤ senderHolds e s
   unfolding senderHolds
-  holds-some =
+  holds-some h =
       each (λ (k : ℕ). 1 ≤ k) (on (s .frame .place))
-      (λ t. let F = busy s ok t .format .ticks in omega (arith, mod-lt (s .frame .place) F)) λ t.
+      (λ t.
+      let F = busy s ok t .format .ticks in
+      either (λ (k : ℕ). 1 ≤ k) (stopping (s .frame)) (omega (arith, frame-calm e s t)) (omega (arith, mod-lt (s .frame .place) F))) λ t.
       either (λ (k : ℕ). 1 ≤ k) (breaks e) (omega arith)
       (each (λ (k : ℕ). 1 ≤ k) (on (s .guard)) (λ g. ltb-true 0 (s .guard) g) (λ g. omega arith))
 
-  keeps-some : (p : ℕ) → p ≡ bit (senderLevel e s) → 1 ≤ senderKeeps e s p
+  keeps-some : 1 ≤ senderCalm e s → (p : ℕ) → p ≡ bit (senderLevel e s) → 1 ≤ senderKeeps e s p
   unfolding senderKeeps
-  keeps-some p q = rw (eq-eqb _ _ q) holds-some
+  keeps-some h p q = rw (eq-eqb _ _ q) (holds-some h)
 
   sender-calm : transmit s (e .ready) (e .broken) (e .send) .half ≡ senderSkipped e 1 s → 1 ≤ senderCalm e s
   unfolding transmit senderSkipped senderMoved senderCalm
@@ -224,10 +227,11 @@ module _ (r : ReceiverHalf) (ok : receiverInRange r ≡ true) where
 pub only-counts-is-calm : (e : Ends) (w : Way) → senderInRange (w .sender) ≡ true → receiverInRange (w .receiver) ≡ true → wayTick e w ≡ waySkipped e 1 w → 1 ≤ wayCalm e w
 unfolding wayTick waySkipped wayCalm
 only-counts-is-calm e w s r h =
+    let c = sender-calm e (w .sender) s (ap (λ (q : Way). q .sender) h) in
     least-above _ _ 1
     (receiver-calm (w .receiver) r (senderKeeps e (w .sender) (w .receiver .state .phase)) (e .live) (e .hear) (sent e w .level) (ap (λ (q : Way). q .receiver) h)
-    (keeps-some e (w .sender) s (w .receiver .state .phase)))
-    (sender-calm e (w .sender) s (ap (λ (q : Way). q .sender) h))
+    (keeps-some e (w .sender) s c (w .receiver .state .phase)))
+    c
 
 -- the calm ticks are those that only count, no fewer and no more
 pub calm-exactly : (e : Ends) (w : Way) → senderInRange (w .sender) ≡ true → receiverInRange (w .receiver) ≡ true → Exactly e w

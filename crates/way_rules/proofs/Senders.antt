@@ -1,14 +1,14 @@
 -- The sender: a tick that only counts does what skipping one does, and what is skipped in parts is skipped at once.
 -- Assumes nothing.
 use Prim.Native.Nat.{ℕ, suc, _+_, _*_, _-_, _/_, _%_, _≤_, _<_}
-use native.Mathlib.Nat.{mod-eq-of-lt, mul-comm, div-add-mod', mul-add-mod-self-left, div-eq-of-lt-le}
+use native.Mathlib.Nat.{mod-eq-of-lt, mul-comm, div-add-mod', mul-add-mod-self-left, div-eq-of-lt-le, le-div-iff-mul-le}
 use native.Mathlib.Omega.{arith}
 use mathlib.Core.Path.{_≡_, refl, ap, sym, _∙_}
-use mathlib.Core.Bool.{Bool, true, false, cond, _&&_}
+use mathlib.Core.Bool.{Bool, true, false, cond, _&&_, true≢false}
 use lib.Dec.{ltb, eqb}
-use borrow.Author.Tests.{lt-ltb, ltb-true, ltb-false, leb-true, eqb-true, ne-eqb}
+use borrow.Author.Tests.{lt-ltb, ltb-true, ltb-false, le-leb, leb-true, eqb-true, ne-eqb}
 use Rattle.line_rules.specs.declared.Format.{Format}
-use Rattle.line_rules.specs.Sending.{bit, on, frameLength, levelOf, level}
+use Rattle.line_rules.specs.Sending.{bit, on, parityBits, frameLength, levelOf, level}
 use Rattle.line_rules.proofs.Choice.{either, each, not-so}
 use Rattle.line_rules.proofs.Frames.{level-stop}
 use Rattle.line_rules.proofs.Table.{both}
@@ -19,7 +19,7 @@ use Rattle.link_rules.specs.Parts.{noFrame, withFrame, withGuard, senderLater}
 use Rattle.link_rules.specs.Transmitting.{nextPlace, frameAt, frameNext, frameTick, breakTick, markTick, transmit}
 use Rattle.link_rules.proofs.Halves.{transmit-under}
 use Rattle.way_rules.specs.declared.Ends.{Ends}
-use Rattle.way_rules.specs.Calm.{endless, breaks, placesLeft, senderCalm, stopping, bitLeft, senderLevel, senderHolds, senderKeeps, senderMoved, senderSkipped}
+use Rattle.way_rules.specs.Calm.{endless, breaks, placesLeft, senderCalm, stopping, bitLeft, frameHolds, senderLevel, senderHolds, senderKeeps, senderMoved, senderSkipped}
 use Rattle.way_rules.proofs.Branches.{Least, least-both}
 use Rattle.way_rules.proofs.Later.{sender-next}
 
@@ -91,7 +91,7 @@ module _ (e : Ends) (s : SenderHalf) where
   unfolding senderCalm
   guard-calm t b g = rw (t, b, g)
 
-  pub frame-holds : on (s .frame .place) ≡ true → senderHolds e s ≡ bitLeft (s .frame .format) (s .frame .place)
+  pub frame-holds : on (s .frame .place) ≡ true → senderHolds e s ≡ frameHolds (s .frame)
   unfolding senderHolds
   frame-holds t = rw t
 
@@ -201,6 +201,72 @@ bit-on F i = go (ltb (i % F + 1) F) refl
         record { ticks = omega (arith, m); number = λ h. d }
     go false q = record { ticks = omega (arith, ltb-false (i % F + 1) F q); number = λ h. absurd (omega (arith, ltb-false (i % F + 1) F q)) }
 
+-- a frame a tick on
+abbrev onward : Frame → Frame
+onward g = frameAt g (g .place + 1)
+
+-- its level stays but for the tick that passed
+record FrameOn (g : Frame) : Type 0 where
+  ticks : frameHolds g ≤ suc (frameHolds (onward g))
+  level : 2 ≤ frameHolds g → level (g .format) (g .character) (g .place + 1) ≡ level (g .format) (g .character) (g .place)
+
+module _ (g : Frame) where
+  pub in-stop : stopping g ≡ true → frameHolds g ≡ placesLeft g
+  in-stop x = rw x
+
+  pub before-stop : stopping g ≡ false → frameHolds g ≡ bitLeft (g .format) (g .place)
+  before-stop x = rw x
+
+  stops : 0 < g .format .factor → frameLength (g .format) ≤ g .place + g .format .stop → stopping g ≡ true
+  stops F l = rw (lt-ltb 0 (g .format .factor) F, le-leb (frameLength (g .format)) (g .place + g .format .stop) l)
+
+-- the next place is in the stop where this one is, or is a bit's last
+stop-next : (g : Frame) → stopping g ≡ true → stopping (onward g) ≡ true
+stop-next g x =
+    let t = both (on (g .format .factor)) _ x in
+    stops (onward g) (ltb-true 0 (g .format .factor) (t .0)) (omega (arith, leb-true (frameLength (g .format)) (g .place + g .format .stop) (t .1)))
+
+stop-reached : (g : Frame) → stopping (onward g) ≡ true → 2 ≤ bitLeft (g .format) (g .place) → stopping g ≡ true
+stop-reached g y l =
+    let F : ℕ = g .format .factor in
+    let M : ℕ = suc (g .format .length + parityBits (g .format)) in
+    let t = both (on F) _ y in
+    let p : 0 < F = ltb-true 0 F (t .0) in
+    let r : M * F ≤ g .place + 1 = omega (arith, leb-true (frameLength (g .format)) (g .place + 1 + g .format .stop) (t .1), mul-comm F M) in
+    let q : M ≤ (g .place + 1) / F = le-div-iff-mul-le p .1 r in
+    let b : M * F ≤ g .place = le-div-iff-mul-le p .0 (omega (arith, bit-on F (g .place) .number l)) in
+    stops g p (omega (arith, mul-comm F M))
+
+stop-starts : (g : Frame) → stopping g ≡ false → stopping (onward g) ≡ true → FrameOn g
+stop-starts g x y = go (ltb 1 (frameHolds g)) refl
+  where
+    last : 2 ≤ frameHolds g → ⊥
+    last h = true≢false (sym (stop-reached g y (omega (arith, before-stop g x))) ∙ x)
+
+    go : (b : Bool) → ltb 1 (frameHolds g) ≡ b → FrameOn g
+    go true q = absurd (last (ltb-true 1 (frameHolds g) q))
+    go false q = record { ticks = omega (arith, ltb-false 1 (frameHolds g) q); level = λ h. absurd (last h) }
+
+frame-on : (g : Frame) → FrameOn g
+frame-on g = go (stopping g) refl (stopping (onward g)) refl
+  where
+    b : BitOn (g .format .factor) (g .place)
+    b = bit-on (g .format .factor) (g .place)
+
+    go : (x : Bool) → stopping g ≡ x → (y : Bool) → stopping (onward g) ≡ y → FrameOn g
+    go true x true y =
+        record {
+          ticks = omega (arith, in-stop g x, in-stop (onward g) y);
+          level = λ h. stop-level (onward g) y ∙ sym (stop-level g x);
+        }
+    go true x false y = absurd (true≢false (sym (stop-next g x) ∙ y))
+    go false x true y = stop-starts g x y
+    go false x false y =
+        record {
+          ticks = omega (arith, b .ticks, before-stop g x, before-stop (onward g) y);
+          level = λ h. ap (levelOf (g .format) (g .character)) (b .number (omega (arith, before-stop g x)));
+        }
+
 guard-ticks : (e : Ends) (s : SenderHalf) → on (s .frame .place) ≡ false → breaks e ≡ false → on (s .guard) ≡ true → senderHolds e s ≤ suc (senderHolds e (senderSkipped e 1 s))
 guard-ticks e s t b g = go (on (s .guard - 1)) refl
   where
@@ -282,13 +348,13 @@ module _ (e : Ends) (s : SenderHalf) where
 
       frame-held : on (s .frame .place) ≡ true → 1 ≤ placesLeft (s .frame) → Held e s
       frame-held t p =
-          let b = bit-on (s .frame .format .factor) (s .frame .place) in
+          let b = frame-on (s .frame) in
           record {
             ticks = omega (arith, b .ticks, frame-holds e s t, ap (senderHolds e) (moved p t) ∙ frame-holds e (senderLater 1 (at s (s .frame .place + 1))) under-way);
             level = λ l.
                 ap (senderLevel e) (moved p t)
                 ∙ frame-level e (senderLater 1 (at s (s .frame .place + 1))) under-way
-                ∙ ap (levelOf (s .frame .format) (s .frame .character)) (b .number (omega (arith, frame-holds e s t)))
+                ∙ b .level (omega (arith, frame-holds e s t))
                 ∙ sym (frame-level e s t);
           }
 

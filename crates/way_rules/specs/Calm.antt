@@ -53,13 +53,17 @@ stopping g = on (g .format .factor) && leb (frameLength (g .format)) (g .place +
 abbrev pub bitLeft : Format → ℕ → ℕ
 bitLeft f i = f .factor - i % f .factor
 
+-- for how many ticks a frame holds its level, as long as they only count: in its stop for all of those
+abbrev pub frameHolds : Frame → ℕ
+frameHolds g = cond (stopping g) (placesLeft g) (bitLeft (g .format) (g .place))
+
 -- the level that it sends next ..
 abbrev pub senderLevel : Ends → SenderHalf → Bool
 senderLevel e s = transmit s (e .ready) (e .broken) (e .send) .level
 
 -- .. and for how many ticks that level stays, as long as they only count
 unfoldable pub senderHolds : Ends → SenderHalf → ℕ
-senderHolds e s = cond (on (s .frame .place)) (bitLeft (s .frame .format) (s .frame .place)) (cond (breaks e) 65535 (cond (on (s .guard)) (s .guard) 65535))
+senderHolds e s = cond (on (s .frame .place)) (frameHolds (s .frame)) (cond (breaks e) 65535 (cond (on (s .guard)) (s .guard) 65535))
 
 -- for how many ticks the line is at the level p: none where it sends the other
 unfoldable pub senderKeeps : Ends → SenderHalf → ℕ → ℕ
@@ -102,6 +106,10 @@ looks w = eqb (w .receiver .state .phase) 2 && eqb (w .receiver .state .countdow
 abbrev pub heardCalm : Ends → Way → ℕ
 heardCalm e w = receiverCalm (w .receiver) (e .live) (senderKeeps e (w .sender) (w .receiver .state .phase))
 
+-- the same way with both tallies n ticks on (P4)
+abbrev pub wayLater : ℕ → Way → Way
+wayLater n w = record { sender = senderLater n (w .sender); receiver = receiverLater n (w .receiver); empty = w .empty; faults = w .faults }
+
 -- how many ticks only count: those that do in both halves
 unfoldable pub wayCalm : Ends → Way → ℕ
 wayCalm e w = least (heardCalm e w) (senderCalm e (w .sender))
@@ -111,10 +119,6 @@ unfoldable pub waySkipped : Ends → ℕ → Way → Way
 waySkipped e k w = record { sender = senderSkipped e k (w .sender); receiver = receiverSkipped k (w .receiver); empty = w .empty; faults = w .faults }
 
 -- == a way that stands: its ticks count in the tallies, and nowhere else ==
-
--- the same way with both tallies n ticks on (P4)
-abbrev pub wayLater : ℕ → Way → Way
-wayLater n w = record { sender = senderLater n (w .sender); receiver = receiverLater n (w .receiver); empty = w .empty; faults = w .faults }
 
 -- at rest with nothing that may start, or in a break whose guard stands
 abbrev pub senderStands : SenderHalf → Bool → Bool → ℕ → Bool

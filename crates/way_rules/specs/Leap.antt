@@ -1,5 +1,6 @@
 -- A receiver in step with a frame: the place of the frame and the character so far say where it is, so that whole bits can be passed at once.
--- Its looks take the bits of the frame's own character, and each is F ticks after the one before: document 01, "Receiving, by receive ticks"; requests P9 and P4.
+-- Its looks take the bits of the frame's own character, and each is F ticks after the one before: document 01, "Receiving, by receive ticks";
+-- requests P9 and P4.
 -- Assumes nothing.
 use Prim.Native.Nat.{ℕ, suc, _+_, _*_, _-_, _^_, _/_, _%_, _≤_, _<_}
 use mathlib.Core.Path.{_≡_}

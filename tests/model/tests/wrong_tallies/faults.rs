@@ -50,7 +50,7 @@ pub const ALL: &[Wrong] = &[
         ALL_OF_THEM
     ),
     wrong!("a false parity is not stamped", bad_unstamped, ALL_OF_THEM),
-    wrong!("a reset keeps the stamp", reset_keeps_stamp, ALL_OF_THEM),
+    wrong!("a reset keeps the stamp", reset_keeps::<STAMP>, ALL_OF_THEM),
     // The receive tally.
     wrong!(
         "ticks with receive off do not count",
@@ -80,11 +80,11 @@ pub const ALL: &[Wrong] = &[
     wrong!("receive off puts the tally to 0", off_clears, ALL_OF_THEM),
     wrong!("a refused receive tick counts", refused_counts, BOARDS),
     wrong!("a refused tick of both counts", refused_both_counts, CALLS),
-    wrong!("the receive tally stops", receive_stops, SHOWN),
-    wrong!("the receive tally has 31 bits", receive_short, SHOWN),
+    wrong!("the receive tally stops", stops::<RECEIVE_TALLY>, SHOWN),
+    wrong!("the receive tally has 31 bits", short::<RECEIVE_TALLY>, SHOWN),
     wrong!(
         "a reset keeps the receive tally",
-        reset_keeps_receive,
+        reset_keeps::<RECEIVE_TALLY>,
         ALL_OF_THEM
     ),
     // The start of a frame, and the transmit tally.
@@ -106,14 +106,14 @@ pub const ALL: &[Wrong] = &[
         disabled_uncounted,
         SHOWN
     ),
-    wrong!("the transmit tally stops", transmit_stops, SHOWN),
-    wrong!("the transmit tally has 31 bits", transmit_short, SHOWN),
+    wrong!("the transmit tally stops", stops::<TRANSMIT_TALLY>, SHOWN),
+    wrong!("the transmit tally has 31 bits", short::<TRANSMIT_TALLY>, SHOWN),
     wrong!(
         "a reset keeps the transmit tally",
-        reset_keeps_transmit,
+        reset_keeps::<TRANSMIT_TALLY>,
         SHOWN
     ),
-    wrong!("a reset keeps the start", reset_keeps_start, SHOWN),
+    wrong!("a reset keeps the start", reset_keeps::<START>, SHOWN),
     // A device out of range.
     wrong!(
         "a device out of range keeps its tallies",
@@ -193,6 +193,48 @@ fn copy(after: &mut Bytes, from: usize, to: usize, less: u32) {
     set_number(after, to, number);
 }
 
+// Of any tally or stamp, by its place.
+
+fn reset_keeps<const PLACE: usize>(call: &Call, refusal: u8, before: &Bytes, after: &mut Bytes) {
+    if refusal == 0 && *call == Call::Reset && in_range(before) {
+        keep(before, after, PLACE);
+    }
+}
+
+/// A tick of the tally's own clock, of a device in range.
+fn counts<const TALLY: usize>(call: &Call, refusal: u8, before: &Bytes) -> bool {
+    let ticked = match TALLY {
+        TRANSMIT_TALLY => transmitted(call, refusal),
+        _ => received(call, refusal),
+    };
+    ticked && in_range(before)
+}
+
+/// Such ticks do not count where the fact is so.
+fn uncounted<const TALLY: usize>(
+    call: &Call,
+    refusal: u8,
+    before: &Bytes,
+    after: &mut Bytes,
+    fact: bool,
+) {
+    if counts::<TALLY>(call, refusal, before) && fact {
+        keep(before, after, TALLY);
+    }
+}
+
+fn stops<const TALLY: usize>(call: &Call, refusal: u8, before: &Bytes, after: &mut Bytes) {
+    let last = number(before, TALLY) == u32::MAX;
+    uncounted::<TALLY>(call, refusal, before, after, last);
+}
+
+fn short<const TALLY: usize>(call: &Call, refusal: u8, before: &Bytes, after: &mut Bytes) {
+    if counts::<TALLY>(call, refusal, before) {
+        let short = number(after, TALLY) & (u32::MAX >> 1);
+        set_number(after, TALLY, short);
+    }
+}
+
 // The stamp of a character.
 
 fn tick_before(call: &Call, refusal: u8, before: &Bytes, after: &mut Bytes) {
@@ -252,42 +294,29 @@ fn bad_unstamped(call: &Call, refusal: u8, before: &Bytes, after: &mut Bytes) {
     }
 }
 
-fn reset_keeps_stamp(call: &Call, refusal: u8, before: &Bytes, after: &mut Bytes) {
-    if refusal == 0 && *call == Call::Reset && in_range(before) {
-        keep(before, after, STAMP);
-    }
-}
-
 // The receive tally.
-
-/// Receive ticks of a device in range that do not count.
-fn uncounted(call: &Call, refusal: u8, before: &Bytes, after: &mut Bytes, fact: bool) {
-    if received(call, refusal) && in_range(before) && fact {
-        keep(before, after, RECEIVE_TALLY);
-    }
-}
 
 fn off_uncounted(call: &Call, refusal: u8, before: &Bytes, after: &mut Bytes) {
     let off = before[COMMAND] & RECEIVE == 0;
-    uncounted(call, refusal, before, after, off);
+    uncounted::<RECEIVE_TALLY>(call, refusal, before, after, off);
 }
 
 fn dcd_uncounted(call: &Call, refusal: u8, before: &Bytes, after: &mut Bytes) {
-    uncounted(call, refusal, before, after, before[DCD] == 1);
+    uncounted::<RECEIVE_TALLY>(call, refusal, before, after, before[DCD] == 1);
 }
 
 fn unset_uncounted(call: &Call, refusal: u8, before: &Bytes, after: &mut Bytes) {
-    uncounted(call, refusal, before, after, before[ACCEPTED] == 0);
+    uncounted::<RECEIVE_TALLY>(call, refusal, before, after, before[ACCEPTED] == 0);
 }
 
 fn search_uncounted(call: &Call, refusal: u8, before: &Bytes, after: &mut Bytes) {
     let searches = listens(before) && before[PHASE] == 1 && after[PHASE] == 1;
-    uncounted(call, refusal, before, after, searches);
+    uncounted::<RECEIVE_TALLY>(call, refusal, before, after, searches);
 }
 
 fn within_uncounted(call: &Call, refusal: u8, before: &Bytes, after: &mut Bytes) {
     let within = before[PHASE] == 2 && after[PHASE] == 2;
-    uncounted(call, refusal, before, after, within);
+    uncounted::<RECEIVE_TALLY>(call, refusal, before, after, within);
 }
 
 fn off_clears(call: &Call, refusal: u8, _: &Bytes, after: &mut Bytes) {
@@ -305,24 +334,6 @@ fn refused_counts(call: &Call, refusal: u8, before: &Bytes, after: &mut Bytes) {
 fn refused_both_counts(call: &Call, refusal: u8, before: &Bytes, after: &mut Bytes) {
     if refusal != 0 && matches!(call, Call::Tick(_)) && in_range(before) {
         copy(after, TRANSMIT_TALLY, TRANSMIT_TALLY, u32::MAX);
-    }
-}
-
-fn receive_stops(call: &Call, refusal: u8, before: &Bytes, after: &mut Bytes) {
-    let last = number(before, RECEIVE_TALLY) == u32::MAX;
-    uncounted(call, refusal, before, after, last);
-}
-
-fn receive_short(call: &Call, refusal: u8, before: &Bytes, after: &mut Bytes) {
-    if received(call, refusal) && in_range(before) {
-        let short = number(after, RECEIVE_TALLY) & (u32::MAX >> 1);
-        set_number(after, RECEIVE_TALLY, short);
-    }
-}
-
-fn reset_keeps_receive(call: &Call, refusal: u8, before: &Bytes, after: &mut Bytes) {
-    if refusal == 0 && *call == Call::Reset && in_range(before) {
-        keep(before, after, RECEIVE_TALLY);
     }
 }
 
@@ -387,42 +398,13 @@ fn end_clears(call: &Call, refusal: u8, before: &Bytes, after: &mut Bytes) {
 }
 
 fn idle_uncounted(call: &Call, refusal: u8, before: &Bytes, after: &mut Bytes) {
-    if marks(call, refusal, before, after) {
-        keep(before, after, TRANSMIT_TALLY);
-    }
+    let idle = marks(call, refusal, before, after);
+    uncounted::<TRANSMIT_TALLY>(call, refusal, before, after, idle);
 }
 
 fn disabled_uncounted(call: &Call, refusal: u8, before: &Bytes, after: &mut Bytes) {
     let off = before[COMMAND] & TRANSMIT == 0;
-    if transmitted(call, refusal) && off && in_range(before) {
-        keep(before, after, TRANSMIT_TALLY);
-    }
-}
-
-fn transmit_stops(call: &Call, refusal: u8, before: &Bytes, after: &mut Bytes) {
-    let last = number(before, TRANSMIT_TALLY) == u32::MAX;
-    if transmitted(call, refusal) && last && in_range(before) {
-        keep(before, after, TRANSMIT_TALLY);
-    }
-}
-
-fn transmit_short(call: &Call, refusal: u8, before: &Bytes, after: &mut Bytes) {
-    if transmitted(call, refusal) && in_range(before) {
-        let short = number(after, TRANSMIT_TALLY) & (u32::MAX >> 1);
-        set_number(after, TRANSMIT_TALLY, short);
-    }
-}
-
-fn reset_keeps_transmit(call: &Call, refusal: u8, before: &Bytes, after: &mut Bytes) {
-    if refusal == 0 && *call == Call::Reset && in_range(before) {
-        keep(before, after, TRANSMIT_TALLY);
-    }
-}
-
-fn reset_keeps_start(call: &Call, refusal: u8, before: &Bytes, after: &mut Bytes) {
-    if refusal == 0 && *call == Call::Reset && in_range(before) {
-        keep(before, after, START);
-    }
+    uncounted::<TRANSMIT_TALLY>(call, refusal, before, after, off);
 }
 
 // A device out of range.
