@@ -4,7 +4,7 @@
 use Prim.Native.Nat.{ℕ, suc, _+_, _<_}
 use mathlib.Core.Path.{_≡_, refl, ap, ap₂, sym, subst, _∙_}
 use mathlib.Core.Bool.{Bool, true, false, cond, not, _&&_, _||_, true≢false}
-use mathlib.Core.List.{List, [], _∷_}
+use mathlib.Core.List.{List, [], _∷_, reverse, reverseAux, reverse-reverse}
 use lib.Dec.{ltb}
 use borrow.Author.Tests.{ltb-true, eqb-true}
 use Rattle.line_rules.specs.declared.Format.{Format}
@@ -19,10 +19,11 @@ use Rattle.link_rules.specs.Transmitting.{transmit}
 use Rattle.link_rules.specs.Hearing.{underWay}
 use Rattle.link_rules.proofs.Halves.{Tuned}
 use Rattle.delivery.specs.Log.{Way, logArrival, logRead}
-use Rattle.delivery.specs.OneWay.{Deed, Ticks, Writes, Reads, Passes, OneWay, latest, Logged, noLog, entered, made, step, runs, permits, allowed, allAllowed}
-use Rattle.delivery.specs.Promise.{Fetched, Idles, Stamped, Promised}
+use Rattle.delivery.specs.OneWay.{Deed, Ticks, Writes, Reads, Passes, OneWay, latest, Logged, noLog, entered, made, step, runs, permits, allowed, allAllowed, getsOf}
+use Rattle.delivery.specs.Promise.{Fetched, Idles, Stamped, stampsRead, Promised}
 use Rattle.delivery.specs.Ends.{senderAfter, receiverAfter, receiveOn, faults, Fit, Sends, Receives, Begins}
 use Rattle.delivery.proofs.Delivery.{noticed, Flow, Flows, tick-flows, write-flows, read-flows, flow-delivers, flow-fetched, flow-permits, flow-idles, flow-stamps, flow-begins, first-writes}
+use Rattle.delivery.proofs.StampsRead.{got, got-on, behind}
 
 -- where p makes q so
 or-else : (p q : Bool) → (not p || q) ≡ true → p ≡ true → q ≡ true
@@ -122,6 +123,25 @@ module _ {W X : Type 0} {o : OneWay W X} {f g : Format} (fit : Fit f g) {Sending
       let q = both (o .steady (w .bench) x) (permits o L w (o .deed (w .bench) x)) (p .0) in
       all-keep (step o w x) xs (deed-keeps w x h (q .0) (o .deed (w .bench) x) refl (q .1)) (p .1)
 
+  -- what holds where the way flows
+  keeps-fetched : (w : Logged W) → Keeps w → Fetched (o .unread (w .bench)) (w .log .came) (w .log .read)
+  keeps-fetched w h = subst (λ (u : Bool). Fetched u (w .log .came) (w .log .read)) (sym (to .unread (w .bench) (h .hears))) (flow-fetched fit t (h .flow))
+
+  keeps-stamped : (w : Logged W) → Keeps w → Stamped t (o .stamp (w .bench)) (w .log .came)
+  keeps-stamped w h = subst (λ (n : RxC). Stamped t n (w .log .came)) (sym (to .stamp (w .bench) (h .hears))) (flow-stamps fit t (h .flow))
+
+  -- .. and what its reads give
+  all-got : (w : Logged W) (xs : List X) → Keeps w → allAllowed o L w xs ≡ true → reverseAux (getsOf o (o .stamp) (w .bench) xs) (got t o w) ≡ got t o (runs o w xs)
+  all-got w [] h al = refl
+  all-got w (x ∷ xs) h al =
+      let p = both (allowed o L w x) (allAllowed o L (step o w x) xs) al in
+      let q = both (o .steady (w .bench) x) (permits o L w (o .deed (w .bench) x)) (p .0) in
+      let k = deed-keeps w x h (q .0) (o .deed (w .bench) x) refl (q .1) in
+      let d : W = w .bench in
+      behind (o .unread d) (o .stamp d) (o .deed d x) (getsOf o (o .stamp) (o .next d x) xs) (got t o w)
+      ∙ ap (reverseAux (getsOf o (o .stamp) (o .next d x) xs)) (got-on t o w (o .next d x) (keeps-stamped w h) (o .deed d x) (keeps-fetched w h) (keeps-fetched (step o w x) k))
+      ∙ all-got (step o w x) xs k (p .1)
+
 -- == the theorems ==
 
 module _ {W X : Type 0} {o : OneWay W X} {f g : Format} (fit : Fit f g) {Sending Hearing : W → Type 0} {sender : W → SenderHalf} {receiver : W → ReceiverHalf}
@@ -135,28 +155,41 @@ module _ {W X : Type 0} {o : OneWay W X} {f g : Format} (fit : Fit f g) {Sending
   abbrev end : Logged W
   end = runs o (noLog w) xs
 
-  kept : Keeps fit from to t end
-  kept =
+  begun : Keeps fit from to t (noLog w)
+  begun =
       let tuned : Tuned g (receiver w) = ap (λ (r : Receiver). cond (underWay r) (receiver w .format) g) (b .searches) in
-      all-keep fit from to t (noLog w) xs (record { sends = b .sends; hears = b .hears; flow = flow-begins fit t (sender w) (receiver w) (b .idle) (b .searches) (b .read) refl tuned }) ok
+      record { sends = b .sends; hears = b .hears; flow = flow-begins fit t (sender w) (receiver w) (b .idle) (b .searches) (b .read) refl tuned }
 
-  fetched : Fetched (o .unread (end .bench)) (end .log .came) (end .log .read)
-  fetched = subst (λ (u : Bool). Fetched u (end .log .came) (end .log .read)) (sym (to .unread (end .bench) (kept .hears))) (flow-fetched fit t (kept .flow))
+  kept : Keeps fit from to t end
+  kept = all-keep fit from to t (noLog w) xs begun ok
 
   -- demand 3 of one way
   pub way-delivers : Promised o f end
   way-delivers =
       record {
         delivered = flow-delivers fit t (kept .flow);
-        unread = fetched;
-        reads = first-writes f fetched (flow-delivers fit t (kept .flow));
+        unread = keeps-fetched fit from to t end kept;
+        reads = first-writes f (keeps-fetched fit from to t end kept) (flow-delivers fit t (kept .flow));
         permission = from .may-write (end .bench) (kept .sends) ∙ flow-permits fit t (kept .flow);
         no-flag = to .no-flag (end .bench) (kept .hears);
       }
 
   -- and its stamps: the held character's is the tally where the way began, and the joined ticks to its arrival
   pub way-stamps : Stamped (receiver w .tally) (o .stamp (end .bench)) (end .log .came)
-  way-stamps = subst (λ (n : RxC). Stamped t n (end .log .came)) (sym (to .stamp (end .bench) (kept .hears))) (flow-stamps fit t (kept .flow))
+  way-stamps = keeps-stamped fit from to t end kept
+
+  -- so each read of an unread character gives, with its value, the stamp of what came, the first one first
+  pub way-reads-stamps : getsOf o (o .stamp) w xs ≡ reverse (stampsRead (receiver w .tally) (o .unread (end .bench)) (end .log .came))
+  way-reads-stamps =
+      sym (reverse-reverse (getsOf o (o .stamp) w xs))
+      ∙ ap reverse (ap (reverseAux (getsOf o (o .stamp) w xs)) none ∙ all-got fit from to t (noLog w) xs begun ok)
+    where
+      nothing-read : (u : Bool) → [] ≡ stampsRead t u []
+      nothing-read true = refl
+      nothing-read false = refl
+
+      none : [] ≡ got t o (noLog w)
+      none = nothing-read (o .unread w)
 
   -- 'idle', as the promise reads it from the log, is what it is in the sending half
   pub way-idles : Idles f (sender (end .bench)) (end .now) (end .log .written)

@@ -2,7 +2,7 @@
 -- Assumes nothing.
 use mathlib.Core.Path.{_≡_, refl, sym, ap, subst, _∙_}
 use mathlib.Core.Bool.{Bool, true, false, cond, true≢false}
-use mathlib.Core.List.{List}
+use mathlib.Core.List.{List, reverse}
 use Rattle.line_rules.specs.declared.Format.{Format}
 use Rattle.line_rules.specs.Sending.{frameLength}
 use Rattle.line_rules.specs.Clocks.{rxLater}
@@ -11,11 +11,11 @@ use Rattle.line_rules.proofs.Choice.{either}
 use Rattle.link_rules.specs.declared.SenderHalf.{SenderHalf}
 use Rattle.link_rules.specs.declared.ReceiverHalf.{ReceiverHalf}
 use Rattle.link_rules.specs.Parts.{loaded, emptied}
-use Rattle.delivery.specs.OneWay.{Deed, Writes, Reads, Passes, noLog, runs, allAllowed}
-use Rattle.delivery.specs.Promise.{Idles, Stamped, Promised}
+use Rattle.delivery.specs.OneWay.{Deed, Writes, Reads, Passes, noLog, runs, allAllowed, getsOf}
+use Rattle.delivery.specs.Promise.{Idles, Stamped, stampsRead, Promised}
 use Rattle.delivery.specs.Joined.{Chip, Side, A, B, other, Happens, Together, To, Elsewhere, Upset, Line, Becomes, Joins, writing, reading, deedFrom, steadyFrom, wayFrom}
 use Rattle.delivery.specs.Ends.{senderAfter, receiverAfter, faults, Fit, Sends, Receives, Idle, Begins, SendingEnd, ReceivingEnd}
-use Rattle.delivery.proofs.Carried.{way-delivers, way-stamps, way-idles}
+use Rattle.delivery.proofs.Carried.{way-delivers, way-stamps, way-reads-stamps, way-idles}
 use Rattle.delivery.proofs.Started.{tick-begins, tick-counts}
 
 -- a call by its deed, at its own side ..
@@ -150,6 +150,10 @@ module _ {W X : Type 0} {State Call : Side → Type 0} {l : Line W X State Call}
     pub line-stamps : let end = runs (wayFrom l s) (noLog w) xs in
         Stamped (receiver (l .device (other s) w) .tally) (l .chip (other s) .stamp (l .device (other s) (end .bench))) (end .log .came)
     line-stamps = way-stamps fit from to w begins xs ok
+
+    pub line-reads-stamps : let end = runs (wayFrom l s) (noLog w) xs in
+        getsOf (wayFrom l s) (wayFrom l s .stamp) w xs ≡ reverse (stampsRead (receiver (l .device (other s) w) .tally) (wayFrom l s .unread (end .bench)) (end .log .came))
+    line-reads-stamps = way-reads-stamps fit from to w begins xs ok
 
     -- 'idle', as the promise reads it from the log, is what it is in the sending half
     pub line-idles : let end = runs (wayFrom l s) (noLog w) xs in Idles f (sender (l .device s (end .bench))) (end .now) (end .log .written)

@@ -1,4 +1,5 @@
 pub mod Delivery
+pub mod StampsRead
 pub mod Carried
 pub mod Order
 pub mod Lists

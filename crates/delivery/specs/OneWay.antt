@@ -104,8 +104,8 @@ putting (Writes v) vs = v ∷ vs
 putting Reads vs = vs
 putting Passes vs = vs
 
--- a read counts where a character, c, was unread
-abbrev pub getting : Bool → ℕ → Deed → List ℕ → List ℕ
+-- a read counts where a character was unread: c is what it gives
+abbrev pub getting : {A : Type 0} → Bool → A → Deed → List A → List A
 getting unread c Ticks vs = vs
 getting unread c (Writes v) vs = vs
 getting unread c Reads vs = cond unread (c ∷ vs) vs
@@ -117,7 +117,11 @@ module _ {W X : Type 0} (o : OneWay W X) where
   puts d [] = []
   puts d (x ∷ xs) = putting (o .deed d x) (puts (o .next d x) xs)
 
-  -- the values of the reads made while a character was unread
+  -- what c tells of the bench at each read made while a character was unread ..
+  abbrev pub getsOf : {A : Type 0} → (W → A) → W → List X → List A
+  getsOf c d [] = []
+  getsOf c d (x ∷ xs) = getting (o .unread d) (c d) (o .deed d x) (getsOf c (o .next d x) xs)
+
+  -- .. the values of those reads
   abbrev pub gets : W → List X → List ℕ
-  gets d [] = []
-  gets d (x ∷ xs) = getting (o .unread d) (o .character d) (o .deed d x) (gets (o .next d x) xs)
+  gets d xs = getsOf (o .character) d xs

@@ -87,10 +87,24 @@ pub record Idles (f : Format) (s : SenderHalf) (now : ℕ) (xs : List Entry) : T
 
 -- == stamps: request P4 ==
 
--- the stamp of the held character, which is the latest that came: t is the receive tally where the way began, and each joined tick since then counts
+-- the stamp of a character that came: t is the receive tally where the way began, and each joined tick since then counts
+abbrev pub stampOf : RxC → Entry → RxC
+stampOf t y = rxLater (y .at) t
+
+-- the held character's, which is the latest that came
 abbrev pub Stamped : RxC → RxC → List Entry → Type 0
 Stamped t shown [] = Unit {0}
-Stamped t shown (y ∷ ys) = shown ≡ rxLater (y .at) t
+Stamped t shown (y ∷ ys) = shown ≡ stampOf t y
+
+-- of what came, what was read: all of it, but for one that is unread
+abbrev pub readOf : Bool → List Entry → List Entry
+readOf false ys = ys
+readOf true [] = []
+readOf true (y ∷ ys) = ys
+
+-- the stamps of that, in the order of the log
+abbrev pub stampsRead : RxC → Bool → List Entry → List RxC
+stampsRead t unread ys = map (stampOf t) (readOf unread ys)
 
 -- == the promise ==
 

@@ -5,7 +5,7 @@ use Prim.Native.Nat.{ℕ, zero, suc}
 use native.Mathlib.Omega.{arith}
 use mathlib.Core.Path.{_≡_, refl, ap, sym, subst, _∙_}
 use mathlib.Core.Bool.{Bool, true, false, cond, _&&_, _||_}
-use mathlib.Core.List.{List, [], _∷_, _++_}
+use mathlib.Core.List.{List, [], _∷_, _++_, reverse}
 use lib.ListN.{replicate}
 use lib.Dec.{eqb}
 use borrow.Author.Tests.{ne-eqb}
@@ -31,12 +31,12 @@ use Rattle.ins2651_ends.proofs.Calls.{writes-is, refused-or}
 use Rattle.ins2651_ends.proofs.Sending.{Sending, sending-end}
 use Rattle.ins2651_ends.proofs.Hearing.{Hearing, receiving-end}
 use Rattle.ins2651_ends.proofs.Untouched.{Untouched, untouched-sends, untouched-hears, sends-to}
-use Rattle.delivery.specs.OneWay.{Deed, Ticks, Writes, Reads, Passes, later, Logged, noLog, permits}
+use Rattle.delivery.specs.OneWay.{Deed, Ticks, Writes, Reads, Passes, later, Logged, noLog, permits, getsOf}
 use Rattle.delivery.specs.OneWay as one-way
-use Rattle.delivery.specs.Promise.{Idles, Stamped, Promised}
+use Rattle.delivery.specs.Promise.{Idles, Stamped, stampsRead, Promised}
 use Rattle.delivery.specs.Joined.{Side, A, B, other}
 use Rattle.delivery.specs.Ends.{Fit, Idle, Begins}
-use Rattle.delivery.proofs.Joined.{line-begins, line-counts, line-delivers, line-stamps, line-idles}
+use Rattle.delivery.proofs.Joined.{line-begins, line-counts, line-delivers, line-stamps, line-reads-stamps, line-idles}
 use Rattle.joined_rules.specs.declared.Pair.{Pair}
 use Rattle.joined_rules.specs.Joining.{tick, ticks}
 use Rattle.joined_rules.specs.Bench.{deviceAt, Step, Tick, At, allMoved, deedFrom, wayFrom, Bench, seenFrom, clock, step, runs}
@@ -101,6 +101,14 @@ module _ (s : Side) (p : Pair) (us : List Step) (up : FromReset us) (opened : Op
         let end = one-way.runs (wayFrom s) (noLog start) ss in
         subst (λ (t : RxC). Stamped t (stamp (deviceAt (other s) (end .bench))) (end .log .came)) counted
         (line-stamps pair-joins s (sending-end f) (receiving-end g) fit start begins ss ok)
+
+    -- .. and a read gives it with its value
+    pub one-way-reads-stamps : let end = one-way.runs (wayFrom s) (noLog start) ss in
+        getsOf (wayFrom s) (wayFrom s .stamp) start ss ≡ reverse (stampsRead firstTally (wayFrom s .unread (end .bench)) (end .log .came))
+    one-way-reads-stamps =
+        let end = one-way.runs (wayFrom s) (noLog start) ss in
+        line-reads-stamps pair-joins s (sending-end f) (receiving-end g) fit start begins ss ok
+        ∙ ap (λ (t : RxC). reverse (stampsRead t (wayFrom s .unread (end .bench)) (end .log .came))) counted
 
     -- 'idle', as the promise reads it from the log, is what it is in the device
     pub one-way-idles : let end = one-way.runs (wayFrom s) (noLog start) ss in Idles f (deviceAt s (end .bench) .sender) (end .now) (end .log .written)

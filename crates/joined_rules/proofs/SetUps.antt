@@ -23,7 +23,7 @@ use Rattle.ins2651_ends.specs.OnALine.{valueOf, normal}
 use Rattle.ins2651_rules.specs.History.{reads, writesHolding}
 use Rattle.ins2651_ends.specs.Fresh.{quiet, allQuiet}
 use Rattle.ins2651_ends.proofs.Untouched.{Untouched, none-unread, untouched-on, since-reset-untouched, quiet-writes-nothing}
-use Rattle.delivery.specs.OneWay.{Deed, Ticks, Writes, Reads, Passes, putting, getting, puts, gets}
+use Rattle.delivery.specs.OneWay.{Deed, Ticks, Writes, Reads, Passes, putting, getting, puts, getsOf}
 use Rattle.delivery.specs.Joined.{Side, A, B, other}
 use Rattle.joined_rules.specs.declared.Pair.{Pair}
 use Rattle.joined_rules.specs.Bench.{deviceAt, Step, Tick, At, moved, allMoved, deedFrom, wayFrom}
@@ -76,7 +76,7 @@ puts-nothing B A c p vs q = not-written c vs
 puts-nothing B B c p vs q = unwritten c vs q
 
 -- and nothing is unread
-gets-nothing : (c : ℕ) (k : Deed) (vs : List ℕ) {u : Bool} → u ≡ false → getting u c k vs ≡ vs
+gets-nothing : {A : Type 0} (c : A) (k : Deed) (vs : List A) {u : Bool} → u ≡ false → getting u c k vs ≡ vs
 gets-nothing c Ticks vs e = refl
 gets-nothing c (Writes v) vs e = refl
 gets-nothing c Reads vs e = rw e
@@ -90,13 +90,14 @@ set-up-puts s p (At t c ∷ us) ss q =
     let r = first-quiet t c us q in
     puts-nothing s t c p (puts (wayFrom s) (moved p (At t c)) (us ++ ss)) (r .0) ∙ set-up-puts s (moved p (At t c)) us ss (r .1)
 
-pub set-up-gets : (s : Side) (p : Pair) (us ss : List Step) → Quiet us → Untouched (deviceAt (other s) p) → gets (wayFrom s) p (us ++ ss) ≡ gets (wayFrom s) (allMoved p us) ss
-set-up-gets s p [] ss q h = refl
-set-up-gets s p (Tick ∷ us) ss q h = absurd (true≢false (sym (q .calls)))
-set-up-gets s p (At t c ∷ us) ss q h =
+pub set-up-gets : {A : Type 0} (k : Pair → A) (s : Side) (p : Pair) (us ss : List Step) → Quiet us → Untouched (deviceAt (other s) p)
+    → getsOf (wayFrom s) k p (us ++ ss) ≡ getsOf (wayFrom s) k (allMoved p us) ss
+set-up-gets k s p [] ss q h = refl
+set-up-gets k s p (Tick ∷ us) ss q h = absurd (true≢false (sym (q .calls)))
+set-up-gets k s p (At t c ∷ us) ss q h =
     let r = first-quiet t c us q in
-    gets-nothing (wayFrom s .character p) (deedFrom s p (At t c)) (gets (wayFrom s) (moved p (At t c)) (us ++ ss)) (none-unread (deviceAt (other s) p) h)
-    ∙ set-up-gets s (moved p (At t c)) us ss (r .1) (still-untouched (other s) t c p (r .0) h)
+    gets-nothing (k p) (deedFrom s p (At t c)) (getsOf (wayFrom s) k (moved p (At t c)) (us ++ ss)) (none-unread (deviceAt (other s) p) h)
+    ∙ set-up-gets k s (moved p (At t c)) us ss (r .1) (still-untouched (other s) t c p (r .0) h)
 
 -- == a side with its settings ==
 

@@ -1,4 +1,5 @@
--- Demand 3 from a session's text: what is printed for the reads of address 0 made while bit 1 was 1 is what was written, cut, in order.
+-- Demand 3 from a session's text: what is printed for the reads of address 0 made while bit 1 was 1 is what was written, cut, in order, each with the
+-- stamp of its arrival.
 -- Assumes nothing.
 use Prim.Native.Nat.{ℕ, zero, suc}
 use mathlib.Core.Path.{_≡_, refl, sym, ap, ap₂, subst, _∙_}
@@ -8,6 +9,7 @@ use lib.Dec.{eqb, leb}
 use lib.ListN.{replicate}
 use borrow.Author.Tests.{eqb-true}
 use Rattle.line_rules.specs.declared.Format.{Format}
+use Rattle.line_rules.specs.declared.RxC.{RxC}
 use Rattle.line_rules.proofs.Choice.{either}
 use Rattle.line_rules.proofs.Table.{both}
 use Rattle.fields.specs.Parted.{fieldsOf}
@@ -18,14 +20,15 @@ use Rattle.ins2651_rules.specs.History.{reads, writesHolding}
 use Rattle.ins2651_rules.specs.Line.{Held}
 use Rattle.ins2651_rules.specs.declared.Device.{Device}
 use Rattle.ins2651_ends.specs.OnALine.{unread, character}
-use Rattle.delivery.specs.OneWay.{Deed, Ticks, Writes, Reads, Passes, getting, puts, gets}
+use Rattle.delivery.specs.OneWay.{Deed, Ticks, Writes, Reads, Passes, getting, puts, getsOf, gets}
 use Rattle.delivery.specs.Promise.{InOrder}
+use Rattle.delivery.proofs.StampsRead.{gets-map}
 use Rattle.delivery.specs.Joined.{Side, A, B, other}
 use Rattle.joined_rules.specs.declared.Pair.{Pair}
 use Rattle.joined_rules.specs.Bench.{deviceAt, Step, Tick, At, moved, allMoved, justReset, deedFrom, wayFrom}
 use Rattle.joined_rules.specs.Demand3.{Settings, settingsAt, Proper, sends, Agree}
 use Rattle.joined_rules.specs.Waiting.{wait}
-use Rattle.joined_rules.proofs.Order.{one-way-in-order, run-in-order}
+use Rattle.joined_rules.proofs.Order.{one-way-in-order, one-way-reads-stamped, run-in-order, run-reads-stamped}
 use Rattle.records.specs.declared.Record.{Record}
 use Rattle.records.specs.declared.Record.the-variants.{Write, Read, Pins, Reset, Wait, Shapeless}
 use Rattle.records.specs.declared.Record.the-variants as record-of
@@ -46,39 +49,18 @@ use Rattle.session_rules.proofs.Lines.{line-moves}
 abbrev held : Device → Held
 held d = record { value = character d; stamp = stamp d }
 
--- as `getting` and `gets` of `delivery`, with stamps
-abbrev taking : Bool → Held → Deed → List Held → List Held
-taking u h Ticks hs = hs
-taking u h (Writes v) hs = hs
-taking u h Reads hs = cond u (h ∷ hs) hs
-taking u h Passes hs = hs
+abbrev heldAt : Side → Pair → Held
+heldAt s p = held (deviceAt (other s) p)
 
 abbrev takes : Side → Pair → List Step → List Held
-takes s p [] = []
-takes s p (x ∷ xs) = taking (unread (deviceAt (other s) p)) (held (deviceAt (other s) p)) (deedFrom s p x) (takes s (moved p x) xs)
-
-abbrev values : List Held → List ℕ
-values hs = map (λ (h : Held). h .value) hs
-
-taking-gets : (u : Bool) (h : Held) (k : Deed) (hs : List Held) → values (taking u h k hs) ≡ getting u (h .value) k (values hs)
-taking-gets u h Ticks hs = refl
-taking-gets u h (Writes v) hs = refl
-taking-gets true h Reads hs = refl
-taking-gets false h Reads hs = refl
-taking-gets u h Passes hs = refl
-
-takes-gets : (s : Side) (p : Pair) (xs : List Step) → values (takes s p xs) ≡ gets (wayFrom s) p xs
-takes-gets s p [] = refl
-takes-gets s p (x ∷ xs) =
-    let d : Device = deviceAt (other s) p in
-    taking-gets (unread d) (held d) (deedFrom s p x) (takes s (moved p x) xs) ∙ ap (getting (unread d) (character d) (deedFrom s p x)) (takes-gets s (moved p x) xs)
+takes s p xs = getsOf (wayFrom s) (heldAt s) p xs
 
 -- == one line ==
 
 -- what the steps take before others
 takes-append : (s : Side) (p : Pair) (xs ys : List Step) → takes s p (xs ++ ys) ≡ takes s p xs ++ takes s (allMoved p xs) ys
 takes-append s p [] ys = refl
-takes-append s p (x ∷ xs) ys = ap (taking (unread (deviceAt (other s) p)) h (deedFrom s p x)) (takes-append s (moved p x) xs ys)
+takes-append s p (x ∷ xs) ys = ap (getting (unread (deviceAt (other s) p)) h (deedFrom s p x)) (takes-append s (moved p x) xs ys)
     ∙ taking-append (unread (deviceAt (other s) p)) (deedFrom s p x)
   where
     vs : List Held
@@ -90,7 +72,7 @@ takes-append s p (x ∷ xs) ys = ap (taking (unread (deviceAt (other s) p)) h (d
     h : Held
     h = held (deviceAt (other s) p)
 
-    taking-append : (u : Bool) (k : Deed) → taking u h k (vs ++ ws) ≡ taking u h k vs ++ ws
+    taking-append : (u : Bool) (k : Deed) → getting u h k (vs ++ ws) ≡ getting u h k vs ++ ws
     taking-append u Ticks = refl
     taking-append u (Writes v) = refl
     taking-append true Reads = refl
@@ -105,7 +87,7 @@ ticks-take B (suc n) p = ticks-take B n (moved p Tick)
 
 -- what is printed for a line of one step, where it is for a read that it prints the character
 one-step : (unit : ℕ) (c : Held) (k : Deed) (u : Bool) (text : List ℕ) (rest : List (List ℕ)) → (isRead k ≡ true → text ≡ line unit c)
-    → cond (isRead k && u) (text ∷ rest) rest ≡ map (line unit) (taking u c k []) ++ rest
+    → cond (isRead k && u) (text ∷ rest) rest ≡ map (line unit) (getting u c k []) ++ rest
 one-step unit c Ticks u text rest h = refl
 one-step unit c (Writes v) u text rest h = refl
 one-step unit c Reads true text rest h = ap (λ (t : List ℕ). t ∷ rest) (h refl)
@@ -113,7 +95,7 @@ one-step unit c Reads false text rest h = refl
 one-step unit c Passes u text rest h = refl
 
 -- what is no read takes nothing
-takes-none : (u : Bool) (c : Held) (k : Deed) → isRead k ≡ false → taking u c k [] ≡ []
+takes-none : (u : Bool) (c : Held) (k : Deed) → isRead k ≡ false → getting u c k [] ≡ []
 takes-none u c Ticks h = refl
 takes-none u c (Writes v) h = refl
 takes-none u c Reads h = absurd (false≢true (sym h))
@@ -216,16 +198,18 @@ prints-taken s n p (l ∷ ls) =
     ∙ sym (map-append (line (letterAt (other s))) here later)
     ∙ ap (map (line (letterAt (other s)))) (sym (takes-append s p (lineSteps p l) (allSteps after ls)))
 
--- what is read in order is shown in order
-shows : (s : Side) (f : Format) {finished : Type 0} (lines : List (List ℕ)) {xs : List Step} → allSteps justReset lines ≡ xs
-    → InOrder f finished (gets (wayFrom s) justReset xs) (puts (wayFrom s) justReset xs)
-    → Shows f finished (letterAt (other s)) (printed s lines) (puts (wayFrom s) justReset (allSteps justReset lines))
-shows s f {finished} lines e h =
+-- what is read in order is shown in order, and with its stamps
+shows : (s : Side) (f : Format) {finished : Type 0} (lines : List (List ℕ)) {xs : List Step} {stamps : List RxC} → allSteps justReset lines ≡ xs
+    → InOrder f finished (gets (wayFrom s) justReset xs) (puts (wayFrom s) justReset xs) → getsOf (wayFrom s) (wayFrom s .stamp) justReset xs ≡ stamps
+    → Shows f finished (letterAt (other s)) (printed s lines) (puts (wayFrom s) justReset (allSteps justReset lines)) stamps
+shows s f {finished} lines e h t =
+    let ys : List Step = allSteps justReset lines in
     record {
-      characters = takes s justReset (allSteps justReset lines);
+      characters = takes s justReset ys;
       shown = prints-taken s 1 justReset lines;
-      in-order = subst (λ (vs : List ℕ). InOrder f finished vs (puts (wayFrom s) justReset (allSteps justReset lines))) (sym (takes-gets s justReset (allSteps justReset lines)))
-          (subst (λ (ys : List Step). InOrder f finished (gets (wayFrom s) justReset ys) (puts (wayFrom s) justReset ys)) (sym e) h);
+      in-order = subst (λ (vs : List ℕ). InOrder f finished vs (puts (wayFrom s) justReset ys)) (sym (gets-map (wayFrom s) (λ (h : Held). h .value) (heldAt s) justReset ys))
+          (subst (λ (zs : List Step). InOrder f finished (gets (wayFrom s) justReset zs) (puts (wayFrom s) justReset zs)) (sym e) h);
+      stamped = gets-map (wayFrom s) (λ (h : Held). h .stamp) (heldAt s) justReset ys ∙ ap (getsOf (wayFrom s) (wayFrom s .stamp) justReset) e ∙ t;
     }
 
 -- one way, whatever happens on the other
@@ -233,9 +217,11 @@ pub one-way-text-delivers : (s : Side) (lines : List (List ℕ)) (m : MeetsFrom 
 one-way-text-delivers s lines m =
     let l = m .parted in
     shows s (formatFrom s l) lines (l .steps) (one-way-in-order (l .set-up) (l .quiet) s (m .opened) (l .after) (m .allowed))
+    (one-way-reads-stamped (l .set-up) (l .quiet) s (m .opened) (l .after) (m .allowed))
 
 -- both at once
 pub text-delivers : (a b : Settings) → Proper a → Proper b → Agree a b → (lines : List (List ℕ)) (m : Meets a b lines) (s : Side) → Delivers s (sends (settingsAt a b s)) (m .parted)
 text-delivers a b pa pb agree lines m s =
     let l = m .parted in
     shows s (sends (settingsAt a b s)) lines (l .steps) (run-in-order (l .set-up) (l .quiet) a b pa pb agree (m .a-holds) (m .b-holds) (l .after) (m .allowed) s)
+    (run-reads-stamped (l .set-up) (l .quiet) a b pa pb agree (m .a-holds) (m .b-holds) (l .after) (m .allowed) s)

@@ -1,24 +1,26 @@
 -- Demand 3 from a session's text: lines that set both units up, a joined tick, then lines of allowed steps. What the session prints for the
--- reads of address 0 made while bit 1 was 1 are the values written, cut, in order; and a wait behind them stops in time (request P12).
+-- reads of address 0 made while bit 1 was 1 are the values written, cut, in order, each with its stamp (request P4); and a wait behind them stops in
+-- time (request P12).
 -- Assumes nothing.
 use Prim.Native.Nat.{ℕ, _+_, _≤_}
 use Prim.Native.Char.{code}
 use mathlib.Core.Path.{_≡_}
 use mathlib.Core.Bool.{Bool, true, false, _&&_}
-use mathlib.Core.List.{List, [], _∷_, _++_, map}
+use mathlib.Core.List.{List, [], _∷_, _++_, map, reverse}
 use Rattle.line_rules.specs.declared.Format.{Format}
+use Rattle.line_rules.specs.declared.RxC.{RxC}
 use Rattle.line_rules.specs.Sending.{frameLength}
 use Rattle.ins2651_rules.specs.Modes.{sendFormat}
 use Rattle.ins2651_rules.specs.Line.{Held}
 use Rattle.ins2651_ends.specs.OnALine.{unread}
 use Rattle.delivery.specs.OneWay.{Deed, Ticks, Writes, Reads, Passes, Logged, noLog, puts}
 use Rattle.delivery.specs.OneWay as one-way
-use Rattle.delivery.specs.Promise.{L, D, InOrder, Finished, Awaited}
+use Rattle.delivery.specs.Promise.{L, D, InOrder, Finished, stampsRead, Awaited}
 use Rattle.delivery.specs.Joined.{Side, A, B, other}
 use Rattle.joined_rules.specs.declared.Pair.{Pair}
 use Rattle.joined_rules.specs.Joining.{tick}
 use Rattle.joined_rules.specs.Bench.{deviceAt, Step, Tick, allMoved, justReset, deedFrom, wayFrom}
-use Rattle.joined_rules.specs.Demand3.{Settings, Quiet, Holds, fresh, allAllowed, Open}
+use Rattle.joined_rules.specs.Demand3.{Settings, Quiet, Holds, firstTally, fresh, allAllowed, Open}
 use Rattle.joined_rules.specs.declared.Unit.{Unit}
 use Rattle.joined_rules.specs.declared.Waited.{Waited}
 use Rattle.joined_rules.specs.Waiting.{sideOf, StopsInTime}
@@ -100,22 +102,28 @@ printed s lines = marked (fetching s justReset lines) (lineTexts 1 (answers just
 abbrev pub line : ℕ → Held → List ℕ
 line unit h = heldText unit (h .value) (h .stamp)
 
--- `R`, unit, 0, a value and a stamp each; the values are a beginning of those that were written, cut, in order, and all of them where the run is finished
-pub record Shows (f : Format) (finished : Type 0) (unit : ℕ) (texts : List (List ℕ)) (written : List ℕ) : Type 0 where
+-- `R`, unit, 0, a value and a stamp each: the values are a beginning of those that were written, cut, in order, and all of them where the run is
+-- finished; the stamps are these
+pub record Shows (f : Format) (finished : Type 0) (unit : ℕ) (texts : List (List ℕ)) (written : List ℕ) (stamps : List RxC) : Type 0 where
   pub characters : List Held
   pub shown : texts ≡ map (line unit) characters
   pub in-order : InOrder f finished (map (λ (h : Held). h .value) characters) written
+  pub stamped : map (λ (h : Held). h .stamp) characters ≡ stamps
 
 -- the run behind the lines, on the way from this side
 abbrev pub end : {lines : List (List ℕ)} → Side → Parted lines → Logged Pair
 end s l = one-way.runs (wayFrom s) (noLog (start l)) (l .after)
+
+-- 1 plus the joined tick of the arrival, for each character that came and was read, the first one first (request P4)
+abbrev pub stampsAt : {lines : List (List ℕ)} → Side → Parted lines → List RxC
+stampsAt s l = reverse (stampsRead firstTally (unread (deviceAt (other s) (end s l .bench))) (end s l .log .came))
 
 -- from the side s, which sends in the format f: the texts are of the other unit, and the values those that the lines write at s. The run is finished
 -- where L+D joined ticks have passed since the last of these, and bit 1 of the other unit is 0
 abbrev pub Delivers : {lines : List (List ℕ)} → Side → Format → Parted lines → Type 0
 Delivers {lines} s f l =
     Shows f (Finished (wayFrom s) f (end s l)) (letterAt (other s)) (printed s lines)
-    (puts (wayFrom s) justReset (allSteps justReset lines))
+    (puts (wayFrom s) justReset (allSteps justReset lines)) (stampsAt s l)
 
 -- == a wait: request P12 ==
 
