@@ -57,11 +57,10 @@ setting-up =
 abbrev pub waited-input : List ℕ
 waited-input =
     set-up-lines
-    ++ bytes "W\tA\t0\t193\nB\tB\t12\nR\tB\t0\nW\tB\t0\t90\nB\tA\t10\nB\tA\t10\nB\tA\t10\nR\tA\t0\n"
-    ++ bytes "B\tB\t65536\nB\tA\t100000\nW\tA\t0\t194\nB\tB\t22\nR\tB\t0\nB\tB\t14\n"
+    ++ bytes "W\tA\t0\t193\nB\tB\t12\nR\tB\t0\nW\tB\t0\t90\nB\tA\t10\nB\tA\t10\nB\tA\t10\nR\tA\t0\nB\tB\t65536\nB\tA\t100000\nB\tB\t11\n"
 
 pub waited-answer : answerText waited-input
-    ≡ bytes "B\tA\t1\nB\tB\t11\nR\tB\t0\t193\t12\nB\tA\t10\nB\tA\t1\nB\tA\t0\nR\tA\t0\t90\t23\nE\t18\t21\nE\t19\t6\nB\tB\t11\nR\tB\t0\t194\t34\nB\tB\t14\nN\t23\t2\n"
+    ≡ bytes "B\tA\t1\nB\tB\t11\nR\tB\t0\t193\t12\nB\tA\t10\nB\tA\t1\nB\tA\t0\nR\tA\t0\t90\t23\nE\t18\t21\nE\t19\t6\nB\tB\t11\nN\t20\t2\n"
 unfolding answerText linesTaken linesOf two three four five obey lineReply wait decimal refusalText valueText heldText waitText countsText rowText saidText fieldOf fieldsOf part oddOnes parityBit sample link-transmitting.transmit link-hearing.receive line-range.inRange senderInRange receiverInRange formatOf statusByte inRange settled writeRefusal readRegister read writeRegister write pinned setPins transmitTick transmit receiveTick receive stamp tick
 waited-answer = refl
 
@@ -72,8 +71,7 @@ waited-meets =
     record {
       parted = record {
         set-up = setting-up;
-        after = At A (chip.Write 0 193) ∷ bench.after 11 (At B (chip.Read 0) ∷ At B (chip.Write 0 90) ∷ bench.after 11 (At A (chip.Read 0)
-            ∷ At A (chip.Write 0 194) ∷ bench.after 11 (At B (chip.Read 0) ∷ bench.after 14 [])));
+        after = At A (chip.Write 0 193) ∷ bench.after 11 (At B (chip.Read 0) ∷ At B (chip.Write 0 90) ∷ bench.after 11 (At A (chip.Read 0) ∷ bench.after 11 []));
         steps = refl;
         quiet = record { calls = refl; a-quiet = refl; b-quiet = refl };
       };
@@ -86,15 +84,15 @@ waited-meets =
 pub waited-delivers : (s : Side) → Delivers s (sends (settingsAt bench.one-stop bench.two-stops s)) (waited-meets .parted)
 waited-delivers = text-delivers bench.one-stop bench.two-stops bench.one-stop-proper bench.two-stops-proper bench.stops-agree (linesTaken waited-input) waited-meets
 
-pub waited-prints : (printed A (linesTaken waited-input) ≡ bytes "R\tB\t0\t193\t12\n" ∷ bytes "R\tB\t0\t194\t34\n" ∷ []) × (printed B (linesTaken waited-input) ≡ bytes "R\tA\t0\t90\t23\n" ∷ [])
+pub waited-prints : (printed A (linesTaken waited-input) ≡ bytes "R\tB\t0\t193\t12\n" ∷ []) × (printed B (linesTaken waited-input) ≡ bytes "R\tA\t0\t90\t23\n" ∷ [])
 unfolding answerText linesTaken linesOf two three four five obey lineReply wait decimal refusalText valueText heldText waitText countsText rowText saidText fieldOf fieldsOf part oddOnes parityBit sample link-transmitting.transmit link-hearing.receive line-range.inRange senderInRange receiverInRange formatOf statusByte inRange settled writeRefusal readRegister read writeRegister write pinned setPins transmitTick transmit receiveTick receive stamp tick
 waited-prints = (refl, refl)
 
 -- .. and all of it, as L+D joined ticks pass behind the last write each way
 pub waited-finished : (s : Side) → Finished (wayFrom s) (sends (settingsAt bench.one-stop bench.two-stops s)) (end s (waited-meets .parted))
 unfolding waited-meets answerText linesTaken linesOf two three four five obey lineReply wait decimal refusalText valueText heldText waitText countsText rowText saidText fieldOf fieldsOf part oddOnes parityBit sample link-transmitting.transmit link-hearing.receive line-range.inRange senderInRange receiverInRange formatOf statusByte inRange settled writeRefusal readRegister read writeRegister write pinned setPins transmitTick transmit receiveTick receive stamp tick
-waited-finished A = record { passed = leb-true 43 47 refl; read = refl }
-waited-finished B = record { passed = leb-true 33 47 refl; read = refl }
+waited-finished A = record { passed = leb-true 21 33 refl; read = refl }
+waited-finished B = record { passed = leb-true 33 33 refl; read = refl }
 
 -- == with a character still to come ==
 
