@@ -191,7 +191,7 @@ static void characters_are_waited_for(void) {
     holds(ins2651_joined_wait(&pair, INS2651_UNIT_B, INS2651_WAIT_LIMIT) < 1000, "the second one comes");
     holds(INS2651_VALUE(ins2651_read(&pair.b, INS2651_DATA)) == 200 % 128, "the second character for b");
     holds(ins2651_joined_wait(&pair, INS2651_UNIT_B, INS2651_WAIT_LIMIT) == INS2651_WAIT_LIMIT, "none comes: the limit is used up");
-    holds(ins2651_joined_wait(&pair, INS2651_UNIT_B, 7) == 7 && !unread(&pair.b), "the limit of a pair that no tick changes");
+    holds(ins2651_joined_wait(&pair, INS2651_UNIT_B, 7) == 7 && !unread(&pair.b), "the limit of a pair that only counts");
     holds(INS2651_VALUE(ins2651_read(&pair.a, INS2651_DATA)) == 97, "the other device has the second of its characters");
     holds((ins2651_peek(&pair.a) & INS2651_STATUS_OVERRUN) != 0, "the first of two at the other device is overrun");
 }
@@ -207,7 +207,7 @@ static void refuses_long_waits(const ins2651_pair *given) {
     }
 }
 
-/* A wait that is too long is refused whatever it would do: of a pair that moves, that no tick changes, and with a character there. */
+/* A wait that is too long is refused whatever it would do: of a pair that moves, that only counts, and with a character there. */
 static void refuses_waits(void) {
     holds(INS2651_WAIT_LIMIT == 65535 && INS2651_WAIT_TOO_LONG == 21, "the limit and the refusal are those of request P12");
     holds(INS2651_WAIT_REFUSAL((uint32_t)21 * 65536 + 7) == 21 && INS2651_WAIT_COUNT((uint32_t)21 * 65536 + 7) == 7, "an answer taken apart");

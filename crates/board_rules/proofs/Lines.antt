@@ -28,9 +28,9 @@ use Rattle.joined_rules.specs.declared.Pair.{Pair}
 use Rattle.joined_rules.specs.Joining as joining
 use Rattle.joined_rules.specs.Bench.{wayFrom, Bench}
 use Rattle.joined_rules.specs.Bench as bench
-use Rattle.joined_rules.specs.Demand3.{Settings, Proper, Agree, FromReset, Holds, FreshlySetUp, allAllowed, Right, Seen, Open}
+use Rattle.joined_rules.specs.Demand3.{Settings, Proper, Agree, FromReset, Holds, FreshlySetUp, allAllowed, Right, StampedRight, Seen, Open}
 use Rattle.joined_rules.specs.Demand3 as demand
-use Rattle.joined_rules.proofs.Promised.{log-moved, one-way-right, demand-3, bench-sees}
+use Rattle.joined_rules.proofs.Promised.{log-moved, one-way-right, demand-3, demand-3-stamps, bench-sees}
 use Rattle.board_rules.specs.declared.Board.{Board}
 use Rattle.board_rules.specs.Ports.{Call, In, Out, Reset, Transmit, Receive, Interrupts, channelOf, selected, inRefusal, roomRefusal, Deed, Refused, Shows, Sets, At, ResetsAll, unless, named, deed}
 use Rattle.board_rules.specs.Runs.{deviceAt, asBits, saidBy, said}
@@ -601,6 +601,10 @@ module _ (l : Spots) (w : Boards) (j : Joined l w) (us : List Step) (m : Between
 
     pub channels-demand-3 : Right a b (bench.runs (fresh l w us m) ss)
     channels-demand-3 = subst (λ (e : Bench). Right a b (bench.runs e ss)) (sym fresh-is) (demand-3 a b pa pb agree p ups set-up ss allowed-so)
+
+    -- and its stamps (request P4)
+    pub channels-stamps : StampedRight (bench.runs (fresh l w us m) ss)
+    channels-stamps = subst (λ (e : Bench). StampedRight (bench.runs e ss)) (sym fresh-is) (demand-3-stamps a b pa pb agree p ups set-up ss allowed-so)
 
     pub channels-see : Seen a b (bench.runs (fresh l w us m) ss)
     channels-see = subst (λ (e : Bench). Seen a b (bench.runs e ss)) (sym fresh-is) (bench-sees a b pa pb agree p ups set-up ss allowed-so)

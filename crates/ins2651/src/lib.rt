@@ -1,7 +1,7 @@
 // The INS2651 over its two halves: document 01's registers, pins, outputs and ticks.
 // Every call takes any number in any field. A device out of range is taken as one just reset; a refused call hands it back as given.
-// The acts below the calls (the two ticks, the reads and writes of registers, pins, status, outputs), the conditions and the refusals check no range:
-// they are for a caller that settles its device once (docs/RANGES.md).
+// The acts below the calls (the two ticks and what only counts, the reads and writes of registers, pins, status, outputs), the conditions and the
+// refusals check no range: they are for a caller that settles its device once (docs/RANGES.md).
 ghost use mathlib.Core.Path.{_≡_};
 ghost use Prim.Native.Nat.{_≤_};
 ghost use Rattle.line_rules.specs.Sending.{bit};

@@ -29,7 +29,7 @@ use Rattle.ins2651_rules.specs.Ticks.{sent, transmitTick, transmit}
 use Rattle.ins2651_rules.specs.Runs.{Call, Reset, Read, Write, SetPins, Transmit, Receive, Outputs, next, after, nowhere}
 use Rattle.ins2651_rules.specs.Rows.{refusal}
 use Rattle.ins2651_rules.specs.History.{resets, writesHolding}
-use Rattle.ins2651_rules.specs.Line.{ifTransmit, transmits, levelsSent, begins, noneBegins}
+use Rattle.ins2651_rules.specs.Line.{ifTransmit, isTransmit, transmits, levelsSent, begins, noneBegins}
 use Rattle.ins2651_rules.proofs.Settled.{settled-is}
 use Rattle.ins2651_rules.proofs.Done.{done-write}
 use Rattle.ins2651_rules.proofs.Refused.{refused-unchanged}
@@ -37,9 +37,6 @@ use Rattle.ins2651_rules.proofs.InRange.{next-in}
 use Rattle.ins2651_rules.proofs.Leaves.{pins-leave, receive-leaves, read-leaves}
 
 -- == calls that are no transmit tick ==
-
-abbrev pub isTransmit : Call → Bool
-isTransmit c = ifTransmit c true false
 
 -- what holds of a transmit tick and of every other call holds of each
 pub each-call : (P : Call → Type 0) → P Transmit → ((c : Call) → isTransmit c ≡ false → P c) → (c : Call) → P c

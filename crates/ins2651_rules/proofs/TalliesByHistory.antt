@@ -14,10 +14,11 @@ use Rattle.line_rules.specs.declared.Heard.{Heard}
 use Rattle.line_rules.specs.declared.Heard.the-variants.{Nothing, Character}
 use Rattle.line_rules.specs.Sending.{on}
 use Rattle.line_rules.specs.Clocks.{ticksOn, txLater, rxLater}
+use Rattle.line_rules.specs.Arrived.{stampedOr}
 use Rattle.line_rules.proofs.Choice.{either}
 use Rattle.link_rules.specs.declared.SenderHalf.{SenderHalf}
 use Rattle.link_rules.specs.declared.ReceiverHalf.{ReceiverHalf}
-use Rattle.link_rules.specs.Hearing.{arrives, stampedOr}
+use Rattle.link_rules.specs.Hearing.{arrives}
 use Rattle.link_rules.proofs.Halves.{transmit-counts, start-after, receive-counts, stamp-held, stamp-now}
 use Rattle.ins2651_rules.specs.declared.Device.{Device}
 use Rattle.ins2651_rules.specs.declared.Outcome.{Outcome}
@@ -31,7 +32,8 @@ use Rattle.ins2651_rules.specs.Stamps.{stamp, start, transmitTally, rece
 use Rattle.ins2651_rules.specs.Runs.{Call, Reset, Read, Write, SetPins, Transmit, Receive, Outputs, next, after}
 use Rattle.ins2651_rules.specs.Rows.{refusal}
 use Rattle.ins2651_rules.specs.History.{Happened, happened, history}
-use Rattle.ins2651_rules.specs.TallyHistory.{since, transmits, receives, transmitTallyBy, receiveTallyBy, startBy, stampBy}
+use Rattle.ins2651_rules.specs.Line.{isTransmit}
+use Rattle.ins2651_rules.specs.TallyHistory.{since, isReceive, transmitTallyBy, receiveTallyBy, startBy, stampBy}
 use Rattle.ins2651_rules.proofs.Settled.{settled-is, reset-in}
 use Rattle.ins2651_rules.proofs.Done.{done-write, done-receive}
 use Rattle.ins2651_rules.proofs.InRange.{after-in}
@@ -86,18 +88,18 @@ module _ (d : Device) (es : List Happened) (a : Shows d es) where
   abbrev half-told : Bool → TxC → Clocks
   half-told began t = clocks t (cond began t (startBy es)) (receiveTallyBy es) (stampBy es)
 
-  transmit-told : shown (transmitTick d .device) ≡ half-told (sent d .began) (record { 0 = suc (since transmits es) % 4294967296 })
+  transmit-told : shown (transmitTick d .device) ≡ half-told (sent d .began) (record { 0 = suc (since isTransmit es) % 4294967296 })
   unfolding transmitTick
   transmit-told =
       let f = sendFormat (d .registers) in
       alike (transmit-counts (d .sender) (mayStart d) (breakOn d) f) (start-after (d .sender) (mayStart d) (breakOn d) f) refl refl
       ∙ ap (λ (c : Clocks). clocks (txLater 1 (c .transmitted)) (cond (sent d .began) (txLater 1 (c .transmitted)) (c .started)) (c .received) (c .stamped)) (a .all-four)
-      ∙ ap (λ (n : ℕ). half-told (sent d .began) (record { 0 = n })) (one-more (since transmits es))
+      ∙ ap (λ (n : ℕ). half-told (sent d .began) (record { 0 = n })) (one-more (since isTransmit es))
 
   abbrev heard-told : Bool → RxC → Clocks
   heard-told came r = clocks (transmitTallyBy es) (startBy es) r (cond came r (stampBy es))
 
-  receive-told : (x : Bool) → shown (receiveTick d x) ≡ heard-told (arrives (λ (a : Arrival). true) (received d x .heard)) (record { 0 = suc (since receives es) % 4294967296 })
+  receive-told : (x : Bool) → shown (receiveTick d x) ≡ heard-told (arrives (λ (a : Arrival). true) (received d x .heard)) (record { 0 = suc (since isReceive es) % 4294967296 })
   unfolding receiveTick
   receive-told x =
       let f = receiveFormat (d .registers) in
@@ -106,7 +108,7 @@ module _ (d : Device) (es : List Happened) (a : Shows d es) where
       alike refl refl (receive-counts (d .receiver) (listening d) f x)
       (stamp-held (d .receiver) (listening d) f x ∙ stamped-so (d .receiver .stamp) now (received d x .heard) (stamp-now (d .receiver) (listening d) f x))
       ∙ ap (λ (c : Clocks). clocks (c .transmitted) (c .started) (rxLater 1 (c .received)) (cond came (rxLater 1 (c .received)) (c .stamped))) (a .all-four)
-      ∙ ap (λ (n : ℕ). heard-told came (record { 0 = n })) (one-more (since receives es))
+      ∙ ap (λ (n : ℕ). heard-told came (record { 0 = n })) (one-more (since isReceive es))
 
 module _ (d : Device) (h : inRange d ≡ true) (es : List Happened) (a : Shows d es) where
   before : Shows (settled d) es

@@ -73,6 +73,8 @@ pub record HoldingWritten (v : ℕ) (d e : Device) : Type 0 where
   pub pins : e .pins ≡ d .pins
   pub frame : e .sender .frame ≡ d .sender .frame
   pub guard : e .sender .guard ≡ d .sender .guard
+  pub start : e .sender .start ≡ d .sender .start
+  pub tally : e .sender .tally ≡ d .sender .tally
   pub receiver : e .receiver ≡ d .receiver
   pub errors : SameErrors (d .flags) (e .flags)
   pub change : e .flags .change ≡ d .flags .change
@@ -88,6 +90,8 @@ holding-written d v =
       pins = refl;
       frame = refl;
       guard = refl;
+      start = refl;
+      tally = refl;
       receiver = refl;
       errors = record { framing = refl; overrun = refl; parity = refl };
       change = refl;

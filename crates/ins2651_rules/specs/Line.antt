@@ -25,6 +25,9 @@ use Rattle.ins2651_rules.specs.History.{resets, writesHolding}
 abbrev pub ifTransmit : {A : Type 0} → Call → A → A → A
 ifTransmit c a b = byCall (atTransmit a (otherwise b)) c
 
+abbrev pub isTransmit : Call → Bool
+isTransmit c = ifTransmit c true false
+
 -- how many transmit ticks a list has
 abbrev pub transmits : List Call → ℕ
 transmits [] = 0

@@ -265,9 +265,9 @@ hearingScripts =
 -- what both tallies and both stamps are as a script's calls leave them: `good` is nine samples, whose last is the stop's
 abbrev stampScripts : List (List Step)
 stampScripts =
-    -- as reset leaves them; a tick counts on its own clock alone, and a refused one counts nothing
+    -- as reset leaves them, with the mode unset: a tick counts on its own clock alone, and a refused one counts nothing
     (Tallies 0 0 ∷ Stamps 0 0 ∷ TxD (ones 3) ∷ Tallies 3 0 ∷ RxD (ones 2) ∷ Tallies 3 2 ∷ Refused (Receive 2) 2 ∷ Refused (Receive 255) 2 ∷ Tallies 3 2 ∷ Stamps 0 0 ∷ Do Reset ∷ Tallies 0 0 ∷ [])
-    -- mode unset, receive off, DCD high, transmit off, CTS high: all count; no other call does
+    -- receive off, DCD high, transmit off, CTS high: all count; no other call does
     ∷ (hearing ++ Tallies 0 0 ∷ command 0 ∷ RxD (zeros 2) ∷ TxD (ones 2) ∷ Tallies 2 2 ∷ command enabled ∷ Do (SetPins 1 1 1) ∷ RxD (ones 3) ∷ TxD (ones 1) ∷ Tallies 3 5
     ∷ Reads 0 0 ∷ Reads 2 113 ∷ Reads 2 0 ∷ Reads 3 enabled ∷ thr 7 ∷ Do (Write 1 5) ∷ Refused (Read 4) 1 ∷ Refused (Write 3 64) 5 ∷ Refused (SetPins 2 0 0) 2 ∷ Tallies 3 5 ∷ [])
     -- a character has the tally after its stop sample's tick: not that of the tick before it, nor of its start; samples behind it leave it

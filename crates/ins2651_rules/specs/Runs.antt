@@ -12,7 +12,8 @@ use Rattle.ins2651_rules.specs.RegisterWrites.{write}
 use Rattle.ins2651_rules.specs.Pinning.{setPins}
 use Rattle.ins2651_rules.specs.Ticks.{transmit, receive}
 
--- the calls of a bench. (`in_range`, `settle` and the two ticks of a device settled before are public for a run of ticks, and no calls of a bench)
+-- the calls of a bench. (`in_range`, `settle` and the two ticks of a device settled before are public for a run of ticks, and no calls of a bench; nor
+-- are the looks at tallies and stamps, which change nothing)
 pub data Call : Type 0 where
   Reset : Call
   Read : ℕ → Call

@@ -18,7 +18,7 @@ use Rattle.line_rules.specs.declared.Sampled.{Sampled}
 use Rattle.line_rules.specs.Sending.{half, parityBits, part}
 use Rattle.line_rules.specs.Clocks.{rxLater, noRxC}
 use Rattle.line_rules.specs.Receiving.{waiting, searching, assembling, afterMark, quiet, under, sample, leaves, tell, arrivals, after}
-use Rattle.line_rules.specs.Arrived.{Arrived, later}
+use Rattle.line_rules.specs.Arrived.{Arrived, later, stampedOr}
 use Rattle.line_rules.proofs.Clocks.{rx-later-later}
 
 -- == one sample, by the receiver's phase ==
@@ -89,11 +89,7 @@ brings-by-any f r s x t u a e = sym (restamps f r x t u .alike) ∙ ap (restampe
 pub stamp-is-now : (f : Format) (r : Receiver) (x : Bool) (t : RxC) (a : Arrival) → sample f r x t .heard ≡ Character a → a .stamp ≡ t
 stamp-is-now f r x t a e =
     let same : stampedWith t (Character a) ≡ Character a = ap (stampedWith t) (sym e) ∙ ap (λ (o : Sampled). o .heard) (restamps f r x t t .alike) ∙ e in
-    ap (stampOr t) (sym same)
-  where
-    stampOr : RxC → Heard → RxC
-    stampOr u Nothing = u
-    stampOr u (Character b) = b .stamp
+    ap (stampedOr t) (sym same)
 
 -- == samples that bring nothing ==
 

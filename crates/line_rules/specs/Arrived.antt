@@ -4,9 +4,16 @@ use Prim.Native.Nat.{ℕ, _+_}
 use mathlib.Core.Bool.{false}
 use Rattle.line_rules.specs.declared.Format.{Format}
 use Rattle.line_rules.specs.declared.Arrival.{Arrival}
+use Rattle.line_rules.specs.declared.Heard.{Heard}
+use Rattle.line_rules.specs.declared.Heard.the-variants.{Nothing, Character}
 use Rattle.line_rules.specs.declared.RxC.{RxC}
 use Rattle.line_rules.specs.Sending.{cut}
 use Rattle.line_rules.specs.Clocks.{rxLater}
+
+-- the stamp of what is heard, or what was before it
+abbrev pub stampedOr : RxC → Heard → RxC
+stampedOr before Nothing = before
+stampedOr before (Character a) = a .stamp
 
 -- a character with the number of its stop sample; samples count from 1
 pub record Arrived : Type 0 where

@@ -17,6 +17,7 @@ use Rattle.line_rules.specs.declared.Sampled.{Sampled}
 use Rattle.line_rules.specs.Sending.{on, parityBits, frameLength}
 use Rattle.line_rules.specs.Range.{Bounds}
 use Rattle.line_rules.specs.Clocks.{txLater, rxLater}
+use Rattle.line_rules.specs.Arrived.{stampedOr}
 use Rattle.line_rules.specs.Receiving.{waiting, sample}
 use Rattle.line_rules.proofs.Bits.{at-most-one}
 use Rattle.line_rules.proofs.Samples.{stamp-is-now}
@@ -28,7 +29,7 @@ use Rattle.link_rules.specs.declared.Sent.{Sent}
 use Rattle.link_rules.specs.Parts.{noFrame, noFormat, dropped, senderLater, receiverLater}
 use Rattle.link_rules.specs.Transmitting.{nextPlace, frameNext, frameTick, beginTick, breakTick, markTick, transmit}
 use Rattle.line_rules.proofs.Choice.{either}
-use Rattle.link_rules.specs.Hearing.{underWay, characterFormat, stepped, arrives, arrivedOr, stampedOr, brought, hear, receive}
+use Rattle.link_rules.specs.Hearing.{underWay, characterFormat, stepped, arrives, arrivedOr, brought, hear, receive}
 
 -- == the sender ==
 

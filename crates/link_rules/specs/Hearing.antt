@@ -46,11 +46,6 @@ abbrev pub arrivedOr : ℕ → Heard → ℕ
 arrivedOr before Nothing = before
 arrivedOr before (Character a) = a .value
 
--- .. and its stamp
-abbrev pub stampedOr : RxC → Heard → RxC
-stampedOr before Nothing = before
-stampedOr before (Character a) = a .stamp
-
 -- what the sample brought, and whether it found the register unread
 abbrev pub brought : ReceiverHalf → Heard → Received
 brought r Nothing = record { half = r; heard = Nothing; overrun = false }

@@ -71,11 +71,6 @@ module _ (n : ℕ) (h : n < 4294967296) (some : 10 ≤ n) where
   unfolding decimal
   decimal-more = rw (le-ltb n 10 some, tenth)
 
-  -- so that its last digit has room too
-  pub tenth-short : length (decimal (n / 10)) ≤ 9
-  unfolding decimal
-  tenth-short = rw tenth (digits-short 8 (n / 10))
-
 -- a number of at most k + 1 digits, where more are asked for
 digits-fit : (j k n : ℕ) → n < 10 ^ suc k → digits (j + k) n ≡ digits k n
 digits-fit zero k n h = rw zero-add refl
