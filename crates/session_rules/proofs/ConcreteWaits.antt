@@ -39,7 +39,7 @@ use Rattle.session_rules.specs.Calls.{obey, lineReply, saidText}
 use Rattle.rows.specs.Text.{decimal, refusalText, valueText, heldText, waitText, countsText, rowText}
 use Rattle.session_rules.specs.Whole.{linesOf, linesTaken, answerText}
 use Rattle.session_rules.specs.Steps.{pairAfter}
-use Rattle.session_rules.specs.Delivered.{Meets, printed, end, Delivers, ShowsInTime}
+use Rattle.session_rules.specs.Delivered.{Meets, end, Delivers, ShowsInTime}
 use Rattle.session_rules.proofs.Delivered.{text-delivers}
 use Rattle.session_rules.proofs.TextWaits.{text-waits}
 
@@ -83,10 +83,6 @@ waited-meets =
 -- .. so what it prints for the reads of address 0 is what was written ..
 pub waited-delivers : (s : Side) → Delivers s (sends (settingsAt bench.one-stop bench.two-stops s)) (waited-meets .parted)
 waited-delivers = text-delivers bench.one-stop bench.two-stops bench.one-stop-proper bench.two-stops-proper bench.stops-agree (linesTaken waited-input) waited-meets
-
-pub waited-prints : (printed A (linesTaken waited-input) ≡ bytes "R\tB\t0\t193\t12\n" ∷ []) × (printed B (linesTaken waited-input) ≡ bytes "R\tA\t0\t90\t23\n" ∷ [])
-unfolding answerText linesTaken linesOf two three four five obey lineReply wait decimal refusalText valueText heldText waitText countsText rowText saidText fieldOf fieldsOf part oddOnes parityBit sample link-transmitting.transmit link-hearing.receive line-range.inRange senderInRange receiverInRange formatOf statusByte inRange settled writeRefusal readRegister read writeRegister write pinned setPins transmitTick transmit receiveTick receive stamp tick
-waited-prints = (refl, refl)
 
 -- .. and all of it, as L+D joined ticks pass behind the last write each way
 pub waited-finished : (s : Side) → Finished (wayFrom s) (sends (settingsAt bench.one-stop bench.two-stops s)) (end s (waited-meets .parted))
