@@ -188,27 +188,32 @@ typedef struct ins2651_flags {
     uint8_t change;
 } ins2651_flags;
 
-/* A device: any bytes will do. One that is out of range (docs/RANGES.md) is taken as one just reset. One of zeros (static storage,
- * memset, {0}) is in range and is not a reset one: its pins are low. Begin with INS2651_RESET or ins2651_reset. */
+/* A device: any bytes will do. One that is out of range (docs/RANGES.md) is taken as one just reset. `status` is the status byte, which every
+ * call keeps: a device whose byte is not what its other fields mean is out of range. So is one of zeros (static storage, memset, {0}): its
+ * pins are low, which makes its byte 192. Begin with INS2651_RESET or ins2651_reset. */
 typedef struct ins2651 {
     ins2651_registers registers;
     ins2651_input_pins pins;
     ins2651_sender sender;
     ins2651_receiver receiver;
     ins2651_flags flags;
+    uint8_t status;
 } ins2651;
 
-/* The initialiser of a device just reset: its inputs are high, all else is 0. */
+/* The initialiser of a device just reset: its inputs are high, all else is 0, the status byte too. */
 #define INS2651_RESET \
     { {0, 0, 0, 0, 0, 0, 0, 0, 0},                        /* registers */ \
       {1, 1, 1},                                          /* pins */ \
       {{0, {0, 0, 0, 0, 0}, 0}, 0, 0, 0, {0}, {0}},       /* sender */ \
       {{0, 0, 0, 0, 0}, {0, 0, 0, 0, 0}, 0, 0, {0}, {0}}, /* receiver */ \
-      {0, 0, 0, 0, 0} }                                   /* flags */
+      {0, 0, 0, 0, 0},                                    /* flags */ \
+      0 }                                                 /* status */
 
-/* The layout is the archive's. Bytes 23, 45 to 47 and 61 to 63 are padding: no call reads it and none keeps it, so compare devices
- * field by field and not by their bytes. Before request P4 a device had 44 bytes, without the stamps and tallies; up to byte 22 it is as
- * it was, the receiver then began at 24 and the flags at 38. Devices kept in files are to be read field by field.
+/* The layout is the archive's. Bytes 23, 45 to 47, 62 and 63 are padding: no call reads it and none keeps it, so compare devices
+ * field by field and not by their bytes. Before request P7 byte 61 was padding too: a device kept in a file from before has no status
+ * byte, and is to be given the one that its fields mean (docs/RANGES.md) before it is lent to a call. Before request P4 a device had 44
+ * bytes, without the stamps and tallies; up to byte 22 it is as it was, the receiver then began at 24 and the flags at 38. Devices kept in
+ * files are to be read field by field.
  * INS2651_HOLDS is for the headers that rest on this one too. */
 #ifdef __cplusplus
 #define INS2651_HOLDS(fact) static_assert(fact, #fact)
@@ -261,6 +266,7 @@ INS2651_AT(flags.overrun, 57, 1);
 INS2651_AT(flags.parity, 58, 1);
 INS2651_AT(flags.empty, 59, 1);
 INS2651_AT(flags.change, 60, 1);
+INS2651_AT(status, 61, 1);
 #undef INS2651_AT
 
 /* Resets the device, all three inputs high; answers 0. */

@@ -61,7 +61,7 @@ static void print_digits(const ins2651 *device) {
     memcpy(bytes, device, sizeof *device);
     bytes[23] = 0; /* padding: no call reads it, none keeps it */
     memset(bytes + 45, 0, 3);
-    memset(bytes + 61, 0, 3);
+    memset(bytes + 62, 0, 2);
     for (size_t i = 0; i < sizeof bytes; i++) printf("%02x", bytes[i]);
 }
 

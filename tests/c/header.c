@@ -138,8 +138,9 @@ static void receive_off_and_on(ins2651 chip, int seen) {
     holds(status(&chip) == seen, "a command with INS2651_COMMAND_RECEIVE leaves the error flags");
     ins2651_write(&chip, INS2651_COMMAND, INS2651_COMMAND_DTR);
     holds(status(&chip) == (INS2651_STATUS_DSR | INS2651_STATUS_DCD), "one without it clears them, and INS2651_STATUS_RXRDY");
-    /* no call brings a flag while receive is off; a device in range may have one */
+    /* no call brings a flag while receive is off; a device in range may have one, with the status byte that goes with it */
     chip.flags.framing = chip.flags.overrun = chip.flags.parity = 1;
+    chip.status = meant(&chip);
     hears(&chip, "101");
     holds(chip.flags.framing == 1 && chip.flags.overrun == 1 && chip.flags.parity == 1, "ticks without it leave the error flags");
     ins2651_write(&chip, INS2651_COMMAND, INS2651_COMMAND_DTR);
@@ -226,7 +227,13 @@ static void beginnings(void) {
     holds(status(&chip) == 0 && same(&chip, &begun), "a device out of range is taken as one just reset");
     memset(&chip, 0xAA, sizeof chip);
     holds(ins2651_reset(&chip) == INS2651_DONE && same(&chip, &begun), "INS2651_RESET is what ins2651_reset makes");
-    holds(status(&zeroed) == (INS2651_STATUS_DSR | INS2651_STATUS_DCD), "a device of zeros is in range, its pins low");
+    holds(begun.status == 0 && ins2651_in_range(&begun) == 1, "INS2651_RESET is in range, with the status byte 0");
+    holds(ins2651_in_range(&zeroed) == 0, "a device of zeros is out of range: its pins are low, and its status byte is 0");
+    zeroed.status = meant(&zeroed);
+    holds(zeroed.status == 192 && ins2651_in_range(&zeroed) == 1, "a device of zeros with the status byte 192 is in range");
+    holds(status(&zeroed) == (INS2651_STATUS_DSR | INS2651_STATUS_DCD), "its pins are low");
+    memset(&zeroed, 0, sizeof zeroed);
+    holds(status(&zeroed) == 0 && same(&zeroed, &begun), "a device of zeros is taken as one just reset");
 }
 
 /* == both ticks in one call, and the looks == */
@@ -294,7 +301,94 @@ static void looks(void) {
     holds(ins2651_peek(&chip) == 0 && ins2651_in_range(&chip) == 0, "the looks at a device out of range");
     holds(same(&chip, &before), "the looks leave a device out of range as it is");
     memset(&chip, 0, sizeof chip);
-    holds(ins2651_in_range(&chip) == 1, "a device of zeros is in range");
+    before = chip;
+    holds(ins2651_peek(&chip) == 0 && ins2651_in_range(&chip) == 0 && same(&chip, &before), "the looks at a device of zeros");
+}
+
+/* == the status byte == */
+
+/* A device that sends and hears, has all three error flags, both marks, an unread character and a waiting one. */
+static ins2651 busy(void) {
+    ins2651 chip = about_to_send(21);
+    for (const char *level = "01000001" "01000011" "01000000"; *level; level++) ins2651_tick(&chip, *level == '1');
+    ins2651_write(&chip, INS2651_DATA, 10);
+    ins2651_pins(&chip, 1, 0, 0);
+    return chip;
+}
+
+/* Each call on a copy: the byte that it leaves is what the fields mean, and a status read answers the one from before. */
+static void byte_is_kept(const ins2651 *chip) {
+    for (int which = 0; which < 12; which++) {
+        ins2651 after = *chip;
+        switch (which) {
+        case 0: ins2651_reset(&after); break;
+        case 1: ins2651_read(&after, INS2651_DATA); break;
+        case 2: holds(ins2651_read(&after, INS2651_STATUS) == chip->status, "a status read answers the byte from before"); break;
+        case 3: ins2651_write(&after, INS2651_DATA, 1); break;
+        case 4: ins2651_write(&after, INS2651_COMMAND, INS2651_COMMAND_TRANSMIT); break;
+        case 5: ins2651_write(&after, INS2651_COMMAND, INS2651_COMMAND_RECEIVE); break;
+        case 6: ins2651_pins(&after, 0, 1, 0); break;
+        case 7: ins2651_pins(&after, 1, 0, 0); break;
+        case 8: ins2651_transmit(&after); break;
+        case 9: ins2651_receive(&after, 0); break;
+        case 10: ins2651_tick(&after, 1); break;
+        default: ins2651_read(&after, 4); holds(after.status == chip->status, "a refused call leaves the status byte");
+        }
+        holds(after.status == meant(&after) && ins2651_in_range(&after) == 1, "every call keeps the status byte");
+        holds(ins2651_peek(&after) == after.status, "ins2651_peek answers the status byte");
+    }
+}
+
+static void status_byte_is_kept(void) {
+    ins2651 chip = about_to_send(21);
+    byte_is_kept(&chip);
+    for (const char *level = "01000001" "01000011" "01000000" "111"; *level; level++) {
+        ins2651_tick(&chip, *level == '1');
+        byte_is_kept(&chip);
+    }
+    chip = busy();
+    holds(chip.status == (INS2651_STATUS_DCD | INS2651_STATUS_FRAMING | INS2651_STATUS_OVERRUN | INS2651_STATUS_PARITY
+        | INS2651_STATUS_TXEMT | INS2651_STATUS_RXRDY), "the status byte of a device with all of its flags");
+    byte_is_kept(&chip);
+}
+
+/* A device in range but for one bit of its status byte. */
+static void wrong_in_one_bit(const ins2651 *chip, int bit) {
+    const ins2651 begun = INS2651_RESET;
+    ins2651 given = *chip;
+    given.status = (uint8_t)(given.status ^ 1 << bit);
+    ins2651 after = given;
+    holds(ins2651_in_range(&after) == 0 && ins2651_peek(&after) == 0, "a wrong bit in the status byte: out of range, the status is 0");
+    holds(ins2651_outputs(&after) == 31 && ins2651_transmit_tally(&after).ticks == 0, "a wrong bit in the status byte: the other looks");
+    holds(INS2651_REFUSAL(ins2651_read(&after, 4)) == INS2651_NO_SUCH_ADDRESS, "a refused read of such a device");
+    holds(ins2651_write(&after, INS2651_COMMAND, 64) == INS2651_NOT_NORMAL_OPERATION, "a refused write of such a device");
+    holds(ins2651_write(&after, INS2651_MODE, 1) == INS2651_NO_STOP_LENGTH, "a refused mode of such a device");
+    holds(ins2651_pins(&after, 0, 0, 2) == INS2651_NO_SUCH_LEVEL, "refused pins of such a device");
+    holds(ins2651_receive(&after, 2) == INS2651_NO_SUCH_LEVEL, "a refused receive tick of such a device");
+    holds(INS2651_REFUSAL(ins2651_tick(&after, 2)) == INS2651_NO_SUCH_LEVEL, "a refused tick of such a device");
+    holds(same(&after, &given), "looks and refused calls hand such a device back as given");
+    holds(ins2651_read(&after, INS2651_STATUS) == 0 && same(&after, &begun), "a status read takes it as one just reset");
+    after = given;
+    ins2651 reset = begun;
+    holds(ins2651_tick(&after, 0) == ins2651_tick(&reset, 0) && same(&after, &reset), "a tick takes it as one just reset");
+    after = given;
+    reset = begun;
+    ins2651_pins(&after, 0, 0, 0);
+    ins2651_pins(&reset, 0, 0, 0);
+    holds(same(&after, &reset) && after.status == meant(&after), "pins take it as one just reset");
+}
+
+static void wrong_status_bytes(void) {
+    const ins2651 begun = INS2651_RESET, chip = busy();
+    for (int bit = 0; bit < 8; bit++) {
+        wrong_in_one_bit(&begun, bit);
+        wrong_in_one_bit(&chip, bit);
+    }
+    ins2651 behind = chip;
+    behind.receiver.unread = 0; /* the status byte stays behind the field */
+    holds(ins2651_in_range(&behind) == 0, "a field that the status byte does not follow");
+    behind.status = meant(&behind);
+    holds(ins2651_in_range(&behind) == 1, "a field that the status byte follows");
 }
 
 /* == the tallies and the stamps == */
@@ -411,6 +505,8 @@ int main(void) {
     refused_ticks();
     rounds_are_joined_ticks();
     looks();
+    status_byte_is_kept();
+    wrong_status_bytes();
     clocks_are_two_types();
     ticks_are_counted();
     characters_are_stamped();

@@ -111,6 +111,7 @@ static interfacer3 waiting(int may, int hold) {
     for (uint8_t k = 0; k < CHANNELS; k++) {
         i3.channel[k].registers.command = may >> k & 1 ? INS2651_COMMAND_TRANSMIT : 0;
         i3.channel[k].receiver.unread = hold >> k & 1;
+        i3.channel[k].status = meant(&i3.channel[k]);
     }
     return i3;
 }
@@ -138,6 +139,43 @@ static void interrupts_out_of_range(void) {
     holds(i3_in(&i3, INTERFACER3_RECEIVE_INTERRUPTS) == 0x88, "INTERFACER3_RECEIVE_INTERRUPTS: out of range counts as just reset");
     holds(i3_interrupts(&i3) == 0x8842, "i3_interrupts: out of range counts as just reset");
     holds(same_boards(&i3, &before), "a look at the interrupts leaves a channel out of range as it is");
+}
+
+/* The status byte of every channel is wrong in the bit of an interrupt: it says so where none is, and not where one is. */
+static void interrupts_of_wrong_status_bytes(void) {
+    for (int bit = 0; bit < 2; bit++) {
+        interfacer3 i3 = waiting(0x52, 0x8C);
+        i3.board.transmit_mask = i3.board.receive_mask = 0xFF;
+        for (int k = 0; k < CHANNELS; k++) i3.channel[k].status = (uint8_t)(i3.channel[k].status ^ 1 << bit);
+        interfacer3 before = i3;
+        holds(i3_in(&i3, INTERFACER3_TRANSMIT_INTERRUPTS) == 0, "INTERFACER3_TRANSMIT_INTERRUPTS: a wrong status byte counts as just reset");
+        holds(i3_in(&i3, INTERFACER3_RECEIVE_INTERRUPTS) == 0, "INTERFACER3_RECEIVE_INTERRUPTS: a wrong status byte counts as just reset");
+        holds(i3_interrupts(&i3) == 0 && i3_outputs(&i3, 4) == 31, "lines and outputs: a wrong status byte counts as just reset");
+        holds(refuses(i3_pins(&i3, 4, 0, 0, 2), INS2651_NO_SUCH_LEVEL), "refused pins of a channel with a wrong status byte");
+        holds(same_boards(&i3, &before), "looks and refused calls leave wrong status bytes as they are");
+        interfacer3 reset = INTERFACER3_RESET(0);
+        holds(i3_in(&i3, INTERFACER3_STATUS) == 0 && same(&i3.channel[0], &reset.channel[0]), "a status read takes it as one just reset");
+        holds(same_but(&i3, &before, 0), "and no other channel");
+    }
+}
+
+/* The byte of the channel that a call is about is kept, and no other is touched. */
+static void status_bytes_are_kept(void) {
+    interfacer3 i3 = set_up(INS2651_COMMAND_TRANSMIT | INS2651_COMMAND_RECEIVE);
+    selects(&i3, 0, 2);
+    i3_out(&i3, INTERFACER3_DATA, 65);
+    for (int tick = 0; tick < 40; tick++) {
+        i3_receive(&i3, 2, (uint8_t)(tick % 7 != 1));
+        i3_transmit(&i3, 2);
+        if (tick % 11 == 10) i3_pins(&i3, 2, 1, (uint8_t)(tick / 11 % 2), 0);
+        if (tick % 13 == 12) i3_in(&i3, INTERFACER3_STATUS);
+        if (tick % 17 == 16) i3_in(&i3, INTERFACER3_DATA);
+        for (int k = 0; k < CHANNELS; k++) holds(i3.channel[k].status == meant(&i3.channel[k]), "every call keeps the status bytes");
+    }
+    i3_out(&i3, INTERFACER3_COMMAND, 0);
+    holds(i3.channel[2].status == meant(&i3.channel[2]), "a command keeps the status byte");
+    i3_reset(&i3);
+    for (int k = 0; k < CHANNELS; k++) holds(i3.channel[k].status == 0, "a reset keeps the status bytes");
 }
 
 static void masks(void) {
@@ -188,7 +226,7 @@ static void pins_and_outputs(void) {
     holds(i3_pins(&i3, 4, 1, 0, 1) == INS2651_DONE && i3.channel[4].pins.dcd == 0 && i3.channel[4].pins.cts == 1, "i3_pins: DCD");
     holds(i3_pins(&i3, 4, 1, 1, 0) == INS2651_DONE && i3.channel[4].pins.cts == 0 && i3.channel[4].pins.dsr == 1, "i3_pins: CTS");
     holds(same_but(&i3, &before, 4), "i3_pins changes its channel alone");
-    i3.channel[4].registers.command = INS2651_COMMAND_DTR;
+    i3.channel[4].registers.command = INS2651_COMMAND_DTR; /* which has no bit in the status */
     before = i3;
     holds(i3_outputs(&i3, 4) == (INS2651_TXRDY | INS2651_RXRDY | INS2651_RTS), "i3_outputs: DTR low, and a change of the pins");
     holds(i3_outputs(&i3, 3) == 31 && same_boards(&i3, &before), "i3_outputs of another channel; it changes nothing");
@@ -289,6 +327,8 @@ int main(void) {
     ports_of_a_channel();
     interrupt_status();
     interrupts_out_of_range();
+    interrupts_of_wrong_status_bytes();
+    status_bytes_are_kept();
     masks();
     ticks_of_any_channel();
     pins_and_outputs();

@@ -230,6 +230,14 @@ static ins2651_pair spoilt(int a, int b) {
     return pair;
 }
 
+/* The same by the status bytes, each wrong in one bit. */
+static ins2651_pair wrongly_stated(int a, int b, int bit) {
+    ins2651_pair pair = talking(SIXTEEN, A_TICK_A_BIT);
+    if (a) pair.a.status = (uint8_t)(pair.a.status ^ 1 << bit);
+    if (b) pair.b.status = (uint8_t)(pair.b.status ^ 1 << bit);
+    return pair;
+}
+
 /* What is out of range counts as just reset, and only that. */
 static ins2651_pair settled(int a, int b) {
     ins2651_pair pair = spoilt(0, 0);
@@ -266,12 +274,54 @@ static void waits_out_of_range(void) {
     for (int which = 0; which < 4; which++) {
         ins2651_pair given = spoilt(which & 1, which >> 1);
         given.b.receiver.unread = 1;
+        given.b.status = meant(&given.b);
         refuses_long_waits(&given);
         for (uint32_t limit = 0; limit < 300; limit++) {
             waits(&given, INS2651_UNIT_A, limit);
             waits(&given, INS2651_UNIT_B, limit);
         }
     }
+}
+
+/* A status byte that is wrong in one bit: also in bit 1, where it says that a character is unread, and none is. */
+static void wrong_status_bytes(void) {
+    for (int which = 1; which < 4; which++)
+        for (int bit = 0; bit < 8; bit++) {
+            int a = which & 1, b = which >> 1;
+            ins2651_pair given = wrongly_stated(a, b, bit), pair = given, whole = settled(a, b);
+            holds(ins2651_in_range(&pair.a) == !a && ins2651_in_range(&pair.b) == !b, "the devices whose status bytes are wrong");
+            holds(ins2651_joined_run(&pair, 0) == INS2651_DONE && same_pairs(&pair, &given), "a run of 0 leaves a wrong status byte");
+            refuses_too_many(&given);
+            refuses_long_waits(&given);
+            for (uint32_t limit = 0; limit < 20; limit++) {
+                waits(&given, INS2651_UNIT_A, limit);
+                waits(&given, INS2651_UNIT_B, limit);
+            }
+            holds(ins2651_joined_tick(&pair) == joined_tick(&whole.a, &whole.b), "the levels of a tick: a wrong status byte counts as just reset");
+            holds(same_pairs(&pair, &whole), "a tick: each device with a wrong status byte is taken as just reset, and no other");
+            pair = given;
+            holds(ins2651_joined_run(&pair, 1) == INS2651_DONE && same_pairs(&pair, &whole), "a run: the same");
+        }
+}
+
+/* Ticks, runs and waits keep the status bytes of both devices. */
+static void status_bytes_are_kept(void) {
+    ins2651_pair pair = talking(A_TICK_A_BIT, SIXTEEN);
+    int seen = 0;
+    for (int tick = 0; tick < 300; tick++) {
+        ins2651_joined_tick(&pair);
+        holds(pair.a.status == meant(&pair.a) && pair.b.status == meant(&pair.b), "a joined tick keeps both status bytes");
+        seen |= pair.a.status | pair.b.status;
+    }
+    holds(seen == 255, "all bits of the status were seen");
+    for (int m = 0; m < 9; m++)
+        for (uint32_t n = 1; n < 400; n += 7) {
+            pair = talking(modes[m / 3], modes[m % 3]);
+            ins2651_joined_run(&pair, n);
+            holds(pair.a.status == meant(&pair.a) && pair.b.status == meant(&pair.b), "a run keeps both status bytes");
+            ins2651_joined_wait(&pair, INS2651_UNIT_B, n);
+            holds(pair.a.status == meant(&pair.a) && pair.b.status == meant(&pair.b), "a wait keeps both status bytes");
+        }
 }
 
 /* == the tallies == */
@@ -340,6 +390,8 @@ int main(void) {
     refuses_waits();
     out_of_range();
     waits_out_of_range();
+    wrong_status_bytes();
+    status_bytes_are_kept();
     joined_ticks_are_counted();
     neighbours();
     return failures != 0;

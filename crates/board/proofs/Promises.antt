@@ -13,7 +13,8 @@ use Rattle.line_rules.proofs.Table.{both}
 use Rattle.ins2651_rules.specs.declared.Device.{Device}
 use Rattle.ins2651_rules.specs.Shape.{resetDevice}
 use Rattle.ins2651_rules.specs.Modes.{has}
-use Rattle.ins2651_rules.specs.Status.{weigh, peek, outputs}
+use Rattle.ins2651_rules.specs.Status.{weigh}
+use Rattle.ins2651_rules.specs.Looks.{peek, outputs}
 use Rattle.ins2651_rules.specs.RegisterReads.{read}
 use Rattle.ins2651_rules.specs.Runs as chip
 use Rattle.ins2651_rules.proofs.Refused.{given-exactly, answers-refusal}

@@ -16,7 +16,8 @@ use Rattle.ins2651_rules.specs.declared.Answer.{Answer}
 use Rattle.ins2651_rules.specs.Shape.{resetDevice}
 use Rattle.ins2651_rules.specs.Modes.{has}
 use Rattle.ins2651_rules.specs.Ranges.{inRange, settled}
-use Rattle.ins2651_rules.specs.Status.{weigh, statusByte, peek}
+use Rattle.ins2651_rules.specs.Status.{weigh}
+use Rattle.ins2651_rules.specs.Looks.{peek}
 use Rattle.ins2651_rules.specs.RegisterReads.{readRegister}
 use Rattle.ins2651_rules.specs.Runs as chip
 use Rattle.ins2651_rules.proofs.Done.{done-read}
@@ -86,8 +87,8 @@ module _ (room : List Device) (k : ℕ) (h : k < length room) where
 
 -- a channel out of range counts as one just reset, and has no interrupt
 pub outside-shows-none : (d : Device) → inRange d ≡ false → (sendsNext d ≡ false) × (holdsOne d ≡ false)
-unfolding peek statusByte
-outside-shows-none d h = let e : settled d ≡ resetDevice = settled-out d h in (rw e refl, rw e refl)
+unfolding peek
+outside-shows-none d h = let e = settled-out d h in (ap (λ (s : Device). has 1 (s .status)) e, ap (λ (s : Device). has 2 (s .status)) e)
 
 -- what is looked at there is what a status read of the chip shows
 pub peek-is-read : (d : Device) → chip.said d (chip.Read 1) ≡ record { refusal = 0; values = peek d ∷ [] }

@@ -9,7 +9,8 @@ use Rattle.link_rules.specs.Transmitting as link-transmitting
 use Rattle.link_rules.specs.Hearing as link-hearing
 use Rattle.link_rules.specs.Within.{senderInRange, receiverInRange}
 use Rattle.ins2651_rules.specs.Modes.{formatOf}
-use Rattle.ins2651_rules.specs.Status.{statusByte, peek, outputsOf, outputs}
+use Rattle.ins2651_rules.specs.Status.{statusByte, outputsOf}
+use Rattle.ins2651_rules.specs.Looks.{peek, outputs}
 use Rattle.ins2651_rules.specs.Ranges.{inRange, settled}
 use Rattle.ins2651_rules.specs.Refusals.{writeRefusal}
 use Rattle.ins2651_rules.specs.RegisterReads.{readRegister, read}

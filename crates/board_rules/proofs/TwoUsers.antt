@@ -14,7 +14,8 @@ use Rattle.link_rules.specs.Hearing as link-hearing
 use Rattle.link_rules.specs.Within.{senderInRange, receiverInRange}
 use Rattle.ins2651_rules.specs.Shape.{resetDevice}
 use Rattle.ins2651_rules.specs.Modes.{formatOf}
-use Rattle.ins2651_rules.specs.Status.{statusByte, peek}
+use Rattle.ins2651_rules.specs.Status.{statusByte}
+use Rattle.ins2651_rules.specs.Looks.{peek}
 use Rattle.ins2651_rules.specs.Ranges.{inRange, settled}
 use Rattle.ins2651_rules.specs.Refusals.{writeRefusal}
 use Rattle.ins2651_rules.specs.RegisterReads.{readRegister, read}

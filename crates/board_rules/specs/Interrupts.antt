@@ -6,7 +6,8 @@ use mathlib.Core.List.{List, [], _∷_}
 use lib.Bits.{bitAnd}
 use Rattle.ins2651_rules.specs.declared.Device.{Device}
 use Rattle.ins2651_rules.specs.Modes.{has}
-use Rattle.ins2651_rules.specs.Status.{weigh, peek}
+use Rattle.ins2651_rules.specs.Status.{weigh}
+use Rattle.ins2651_rules.specs.Looks.{peek}
 use Rattle.board_rules.specs.declared.Board.{Board}
 
 -- bit k is 1 where channel k is so

@@ -18,7 +18,8 @@ use Rattle.ins2651_rules.specs.RegisterReads.{readHolding, readStatus, readRegi
 use Rattle.ins2651_rules.specs.RegisterWrites.{writeHolding, writeRegister, write}
 use Rattle.ins2651_rules.specs.Pinning.{pinned, setPins}
 use Rattle.ins2651_rules.specs.Ticks.{transmitTick, transmit, receiveTick, receive, tick}
-use Rattle.ins2651_rules.specs.Status.{statusByte, peek, outputsOf, outputs}
+use Rattle.ins2651_rules.specs.Status.{outputsOf}
+use Rattle.ins2651_rules.specs.Looks.{peek, outputs}
 use Rattle.ins2651_rules.proofs.Done.{register-done, done-write, done-pins, done-receive}
 use Rattle.ins2651_rules.proofs.Settled.{settled-is, settled-out, settled-in}
 use Rattle.ins2651_rules.specs.Still.{rests, searches, still}
@@ -192,9 +193,9 @@ pub outputs-or-reset : Looks 31 settles (shows (λ d. levels (outputsOf d))) tel
 unfolding outputs outputsOf
 outputs-or-reset = looked (λ d. levels (outputsOf d)) 31 refl
 
-pub status-or-reset : Looks 0 settles (shows statusByte) peeks
-unfolding peek statusByte
-status-or-reset = looked statusByte 0 refl
+pub status-or-reset : Looks 0 settles (shows (λ d. d .status)) peeks
+unfolding peek
+status-or-reset = looked (λ d. d .status) 0 refl
 
 pub range-or-reset : Looks 0 settles (shows (λ d. 1)) tells-range
 range-or-reset = record { sound = λ d e. rw (told (inRange d) true e) (refl, settled-is d (told _ true e)); unsound = λ d e. rw (told (inRange d) false e) (refl, refl) }

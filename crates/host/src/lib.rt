@@ -14,8 +14,8 @@ ghost use Rattle.ins2651_rules.specs.RegisterWrites.{writeHolding, writeRegiste
 ghost use Rattle.ins2651_rules.specs.Pinning.{pinned, setPins};
 ghost use Rattle.ins2651_rules.specs.Ticks;
 ghost use Rattle.ins2651_rules.specs.Ticks.{transmitTick, receiveTick, bothTicks};
-ghost use Rattle.ins2651_rules.specs.Status;
-ghost use Rattle.ins2651_rules.specs.Status.{statusByte, outputsOf};
+ghost use Rattle.ins2651_rules.specs.Status.{outputsOf};
+ghost use Rattle.ins2651_rules.specs.Looks;
 ghost use Rattle.ins2651_rules.specs.Stamps;
 ghost use Rattle.host.specs.Replies;
 ghost use Rattle.host.specs.Replies.{word, levels, heard, ticked};
@@ -153,9 +153,9 @@ fn outputs(d: Device) -> u16
 }
 
 fn peek(d: Device) -> u16
-    ensures { λ r. ⌜ r ≡ statusByte d ⌝ }
+    ensures { λ r. ⌜ r ≡ d .status ⌝ }
 {
-    ins2651::status_byte(d) as u16
+    d.status as u16
 }
 
 // 1, of any device in range: `ins2651_in_range` is then a call that only looks, as the others.
@@ -522,7 +522,7 @@ pub extern "C" fn ins2651_tick(d: &mut Device, level: u8) -> u16
 // The levels of the outputs, as the bits of one number; the device stays as it is, in range or not.
 #[no_mangle]
 pub extern "C" fn ins2651_outputs(d: &mut Device) -> u16
-    ensures { λ r. ⌜ (r ≡ levels (Status.outputs (now (d .entry)))) × (now (d .exit) ≡ now (d .entry)) ⌝ }
+    ensures { λ r. ⌜ (r ≡ levels (Looks.outputs (now (d .entry)))) × (now (d .exit) ≡ now (d .entry)) ⌝ }
 {
     let given = *d;
     let sound = make_sound(d);
@@ -537,7 +537,7 @@ pub extern "C" fn ins2651_outputs(d: &mut Device) -> u16
 // The status, which is not read; the device stays as it is, in range or not.
 #[no_mangle]
 pub extern "C" fn ins2651_peek(d: &mut Device) -> u16
-    ensures { λ r. ⌜ (r ≡ Status.peek (now (d .entry))) × (now (d .exit) ≡ now (d .entry)) ⌝ }
+    ensures { λ r. ⌜ (r ≡ Looks.peek (now (d .entry))) × (now (d .exit) ≡ now (d .entry)) ⌝ }
 {
     let given = *d;
     let sound = make_sound(d);

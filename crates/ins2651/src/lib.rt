@@ -3,17 +3,21 @@
 // The acts below the calls (the two ticks and what only counts, the reads and writes of registers, pins, status, outputs), the conditions and the
 // refusals check no range: they are for a caller that settles its device once (docs/RANGES.md).
 ghost use mathlib.Core.Path.{_≡_};
+ghost use mathlib.Core.Bool.{true};
 ghost use Prim.Native.Nat.{_≤_};
 ghost use Rattle.line_rules.specs.Sending.{bit};
+ghost use Rattle.line_rules.specs.declared.Arrival.{Arrival};
+ghost use Rattle.link_rules.specs.Hearing.{arrives};
 ghost use Rattle.ins2651_rules.specs.Shape;
-ghost use Rattle.ins2651_rules.specs.Shape.{resetDevice, sendCounted, hearCounted, deviceLater, refusedRead, refused};
+ghost use Rattle.ins2651_rules.specs.Shape.{statusKept, resetDevice, sendCounted, hearCounted, deviceLater, refusedRead, refused};
 ghost use Rattle.ins2651_rules.specs.Modes;
 ghost use Rattle.ins2651_rules.specs.Modes.{factorOf, stopOf, formatOf, sendFormat, receiveFormat};
 ghost use Rattle.ins2651_rules.specs.Conditions;
 ghost use Rattle.ins2651_rules.specs.Conditions.{dataSetReady, clearToSend, modeSet, mayWrite};
 ghost use Rattle.ins2651_rules.specs.Status;
+ghost use Rattle.ins2651_rules.specs.Looks;
 ghost use Rattle.ins2651_rules.specs.Status.{modemBits, errorBits, readyBits, statusByte, outputsOf};
-ghost use Rattle.ins2651_rules.specs.Ranges.{mode1InRange, commandInRange, registersInRange, pinsInRange, flagsInRange, inRange, restsInRange, settled};
+ghost use Rattle.ins2651_rules.specs.Ranges.{mode1InRange, commandInRange, registersInRange, pinsInRange, flagsInRange, statusInRange, inRange, restsInRange, settled};
 ghost use Rattle.ins2651_rules.specs.Refusals.{readRefusal, mode1Refusal, modeRefusal, commandRefusal, writeRefusal, pinsRefusal, levelRefusal};
 ghost use Rattle.ins2651_rules.specs.RegisterReads;
 ghost use Rattle.ins2651_rules.specs.RegisterReads.{readHolding, readStatus, readMode, readCommand, readRegister};
@@ -25,7 +29,7 @@ ghost use Rattle.ins2651_rules.specs.Ticks;
 ghost use Rattle.ins2651_rules.specs.Still;
 ghost use Rattle.ins2651_rules.specs.Stamps;
 ghost use Rattle.ins2651_rules.specs.Stamps.{transmitTally, receiveTally};
-ghost use Rattle.ins2651_rules.specs.Ticks.{sentBy, transmitTick, receivedBy, receiveTick};
+ghost use Rattle.ins2651_rules.specs.Ticks.{runsEmpty, sentBy, transmitTick, receivedBy, receiveTick};
 use ins2651_rules::Answer;
 use ins2651_rules::Device;
 use ins2651_rules::Flags;
@@ -220,11 +224,20 @@ fn ready_bits(d: Device) -> u8
     weigh(either_mark(d), 4) + weigh(unread(d), 2) + weigh(may_write(d), 1)
 }
 
-// The status of a device in range.
-pub fn status_byte(d: Device) -> u8
+// What the stored status byte of a device must be (P7).
+fn status_byte(d: Device) -> u8
     ensures { λ r. ⌜ r ≡ statusByte d ⌝ }
 {
     modem_bits(d) + error_bits(d.flags) + ready_bits(d)
+}
+
+// The device with the status byte that its other fields mean; what else it is stays.
+pub fn keep_status(mut d: Device) -> Device
+    ensures { λ r. ⌜ r ≡ statusKept d ⌝ }
+{
+    let status = status_byte(d);
+    d.status = status;
+    d
 }
 
 // The levels of the outputs, of a device in range.
@@ -244,7 +257,7 @@ pub fn outputs_of(d: Device) -> OutputPins
 
 // The levels of the outputs.
 pub fn outputs(d: Device) -> OutputPins
-    ensures { λ r. ⌜ r ≡ Status.outputs d ⌝ }
+    ensures { λ r. ⌜ r ≡ Looks.outputs d ⌝ }
 {
     outputs_of(settle(d))
 }
@@ -287,6 +300,13 @@ fn flags_in_range(f: Flags) -> bool
     (f.framing <= 1) & (f.overrun <= 1) & (f.parity <= 1) & (f.empty <= 1) & (f.change <= 1)
 }
 
+// The stored byte is what the other fields mean (P7).
+fn status_in_range(d: Device) -> bool
+    ensures { λ b. ⌜ b ≡ statusInRange d ⌝ }
+{
+    d.status == status_byte(d)
+}
+
 // Whether a device is one of document 01.
 pub fn in_range(d: Device) -> bool
     ensures { λ b. ⌜ b ≡ inRange d ⌝ }
@@ -295,7 +315,8 @@ pub fn in_range(d: Device) -> bool
     if set {
         return link::sender_in_range(d.sender)
             & link::receiver_in_range(d.receiver)
-            & flags_in_range(d.flags);
+            & flags_in_range(d.flags)
+            & status_in_range(d);
     }
     false
 }
@@ -309,6 +330,7 @@ pub fn rests_in_range(d: Device) -> bool
         & link::sender_rests_in_range(d.sender)
         & link::receiver_rests_in_range(d.receiver)
         & flags_in_range(d.flags)
+        & status_in_range(d)
 }
 
 fn clear_registers() -> Registers
@@ -347,6 +369,7 @@ pub fn reset() -> Device
             empty: 0,
             change: 0,
         },
+        status: 0,
     }
 }
 
@@ -387,16 +410,24 @@ pub fn read_holding(mut d: Device) -> Answer
     Answer {
         refusal: 0,
         value: d.receiver.holding,
-        device: d,
+        device: keep_status(d), // bit 1
     }
 }
 
-// A status read of a device in range clears the change-mark.
+// A status read of a device in range gives the stored byte, and clears the change-mark; where there is none it puts no bits together (P7).
 pub fn read_status(mut d: Device) -> Answer
     ensures { λ r. ⌜ r ≡ readStatus d ⌝ }
 {
-    let value = status_byte(d);
+    let value = d.status;
+    let marked = 0 < d.flags.change;
     d.flags.change = 0;
+    if marked {
+        return Answer {
+            refusal: 0,
+            value: value,
+            device: keep_status(d), // bit 2
+        };
+    }
     Answer {
         refusal: 0,
         value: value,
@@ -527,7 +558,7 @@ pub fn write_holding(mut d: Device, v: u8) -> Device
     let loaded = link::load(d.sender, v);
     d.sender = loaded;
     d.flags.empty = 0;
-    d
+    keep_status(d) // bits 2 and 0
 }
 
 fn syns_written(mut r: Registers, v: u8) -> Registers
@@ -608,7 +639,7 @@ fn write_command(mut d: Device, v: u8) -> Device
     d.registers.command = kept;
     d.receiver = receiver;
     d.flags = flags;
-    d
+    keep_status(d) // bits 5 to 0
 }
 
 fn write_syn(mut d: Device, v: u8) -> Device
@@ -682,7 +713,7 @@ pub fn pinned(mut d: Device, dsr: u8, dcd: u8, cts: u8) -> Device
     };
     d.pins = pins;
     d.flags.change = change;
-    d
+    keep_status(d) // bits 7, 6 and 2
 }
 
 // The three modem inputs take new levels.
@@ -710,18 +741,30 @@ fn sent(d: Device) -> Sent
     )
 }
 
-// What it leaves, and the empty-mark.
+// It ends a frame with THR empty and transmit enabled.
+fn runs_empty(d: Device, s: Sent) -> bool
+    ensures { λ r. ⌜ r ≡ runsEmpty d s ⌝ }
+{
+    s.drained & transmit_enabled(d)
+}
+
+// What it leaves, and the empty-mark; the status is put together where a frame begins or the mark is set.
 fn sent_by(mut d: Device, s: Sent) -> Ticked
     ensures { λ r. ⌜ r ≡ sentBy d s ⌝ }
 {
-    let empty = line::or_set(s.drained & transmit_enabled(d), d.flags.empty);
+    let empties = runs_empty(d, s);
+    let empty = line::or_set(empties, d.flags.empty);
     let half = s.half;
+    let level = number(s.level);
     d.sender = half;
     d.flags.empty = empty;
-    Ticked {
-        level: number(s.level),
-        device: d,
+    if s.began | empties {
+        return Ticked {
+            level,
+            device: keep_status(d), // bits 2 and 0
+        };
     }
+    Ticked { level, device: d }
 }
 
 // A transmit tick of a device in range; a run of ticks settles its device once.
@@ -762,7 +805,17 @@ fn received(d: Device, x: bool) -> Received
     link::receive(d.receiver, listening(d), receive_format(d.registers), x)
 }
 
-// What it leaves, and the flags.
+// How many characters arrive with it, 0 or 1.
+fn arrivals(heard: Heard) -> u8
+    ensures { λ n. ⌜ n ≡ bit (arrives (λ (a : Arrival). true) heard) ⌝ }
+{
+    match heard {
+        Heard::Nothing => 0,
+        Heard::Character(a) => 1,
+    }
+}
+
+// What it leaves, and the flags; the status is put together where a character arrives.
 fn received_by(mut d: Device, r: Received) -> Device
     ensures { λ t. ⌜ t ≡ receivedBy d r ⌝ }
 {
@@ -771,6 +824,9 @@ fn received_by(mut d: Device, r: Received) -> Device
     let half = r.half;
     d.receiver = half;
     d.flags = flags;
+    if 0 < arrivals(heard) {
+        return keep_status(d); // bits 5, 4, 3 and 1
+    }
     d
 }
 

@@ -16,7 +16,7 @@ use Rattle.ins2651_rules.specs.declared.Pins.{Pins}
 use Rattle.ins2651_rules.specs.declared.Flags.{Flags}
 use Rattle.ins2651_rules.specs.declared.Device.{Device}
 use Rattle.ins2651_rules.specs.declared.Answer.{Answer}
-use Rattle.ins2651_rules.specs.Shape.{withParts, withRegisters, pinLevels, withEmpty, withChange}
+use Rattle.ins2651_rules.specs.Shape.{withStatus, withParts, withRegisters, pinLevels, withEmpty, withChange}
 use Rattle.ins2651_rules.specs.Modes.{has}
 use Rattle.ins2651_rules.specs.Conditions.{transmitEnabled, vacant}
 use Rattle.ins2651_rules.specs.Ranges.{inRange, settled}
@@ -32,6 +32,7 @@ use Rattle.ins2651_rules.specs.History.{reads, writesHolding}
 use Rattle.ins2651_rules.proofs.Settled.{settled-is, settled-out, settled-in}
 use Rattle.ins2651_rules.proofs.Done.{does-read, does-write, does-pins}
 use Rattle.ins2651_rules.proofs.Refused.{read-address}
+use Rattle.ins2651_rules.proofs.InRange.{status-kept}
 use Rattle.ins2651_rules.proofs.Leaves.{SameErrors, withSyns}
 use Rattle.ins2651_rules.proofs.WritesLeave.{NoErrors, ErrorsBy}
 use Rattle.ins2651_rules.proofs.StatusBits.{status-bits}
@@ -41,7 +42,7 @@ use Rattle.ins2651_ends.specs.OnALine.{statusBit, mayWrite, unread, flag
 
 bit-is : (d : Device) (w : ℕ) → inRange d ≡ true → statusBit w d ≡ has w (statusByte d)
 unfolding readRegister
-bit-is d w h = ap (λ (o : Answer). has w (o .value)) (does-read d h 1 refl)
+bit-is d w h = ap (λ (o : Answer). has w (o .value)) (does-read d h 1 refl) ∙ ap (has w) (status-kept d h)
 
 -- bit 0 is 1 while transmit is enabled and THR empty
 pub may-write-is : (d : Device) → inRange d ≡ true → mayWrite d ≡ (transmitEnabled d && vacant d)
@@ -157,9 +158,9 @@ pub record Light (d : Device) (c : Call) : Type 0 where
   pub errors : SameErrors (d .flags) (next d c .flags)
 
 module _ (d : Device) (h : inRange d ≡ true) where
-  -- SYN bytes, pointers, pins, halves and marks
-  lightly : (k : Call) {a b c m n x y : ℕ} {p : Pins} {s : SenderHalf} {r : ReceiverHalf}
-      → next d k ≡ withParts d (withSyns (d .registers) a b c m n) p s r (withEmpty (withChange (d .flags) y) x)
+  -- SYN bytes, pointers, pins, halves, marks and the status
+  lightly : (k : Call) {a b c m n x y v : ℕ} {p : Pins} {s : SenderHalf} {r : ReceiverHalf}
+      → next d k ≡ withStatus (withParts d (withSyns (d .registers) a b c m n) p s r (withEmpty (withChange (d .flags) y) x)) v
       → p ≡ pinsAfter k (d .pins) → s ≡ cond (writesHolding k) (loaded (d .sender) (valueOf k)) (d .sender) → r ≡ cond (reads 0 k) (emptied (d .receiver)) (d .receiver) → Light d k
   lightly k q p s r =
       record {

@@ -10,7 +10,7 @@ use Rattle.ins2651_rules.specs.declared.Outcome.{Outcome}
 use Rattle.ins2651_rules.specs.Shape.{refusedRead}
 use Rattle.ins2651_rules.specs.Ranges.{settled}
 use Rattle.ins2651_rules.specs.Refusals.{levelRefusal}
-use Rattle.ins2651_rules.specs.Status.{peek}
+use Rattle.ins2651_rules.specs.Looks.{peek}
 use Rattle.ins2651_rules.specs.RegisterReads.{readRegister, read}
 use Rattle.ins2651_rules.specs.Ticks.{transmit, receiveTick, receive, sending, tick}
 use Rattle.ins2651_rules.proofs.Settled.{settled-in}

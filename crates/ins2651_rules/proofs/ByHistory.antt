@@ -37,7 +37,7 @@ use Rattle.ins2651_rules.proofs.Settled.{settled-is, reset-in}
 use Rattle.ins2651_rules.proofs.Done.{done-read, done-write, done-pins, done-receive, does-read}
 use Rattle.ins2651_rules.proofs.Commands.{transmit-stored}
 use Rattle.ins2651_rules.proofs.Refused.{read-address, write-address, command-accepted, levels-taken, answers-refusal, refused-unchanged}
-use Rattle.ins2651_rules.proofs.InRange.{parts, next-in, after-in}
+use Rattle.ins2651_rules.proofs.InRange.{parts, syns-command, modes-command, next-in, after-in, after-kept}
 
 -- the device shows what happened
 record Agrees (d : Device) (es : List Happened) : Type 0 where
@@ -90,13 +90,6 @@ module _ (d : Device) (es : List Happened) (a : Agrees d es) where
       (record { dsr = a .dsr; dcd = a .dcd; framing = a .framing; overrun = a .overrun; parity = a .parity; empty = a .empty; change = a .change; unread = a .unread; enabled = a .enabled; waiting = a .waiting })
   read-shown (suc (suc (suc zero))) l = record { dsr = a .dsr; dcd = a .dcd; framing = a .framing; overrun = a .overrun; parity = a .parity; empty = a .empty; change = a .change; unread = a .unread; enabled = a .enabled; waiting = a .waiting }
   read-shown (suc (suc (suc (suc address)))) l = absurd (omega arith)
-
-  -- the command register is none of these
-  syns-command : (r : Registers) (v : ℕ) → synsWritten r v .command ≡ r .command
-  syns-command r v = either (λ (q : Registers). q .command ≡ r .command) (eqb (r .syns) 0) refl (either (λ (q : Registers). q .command ≡ r .command) (eqb (r .syns) 1) refl refl)
-
-  modes-command : (r : Registers) (v : ℕ) → modesWritten r v .command ≡ r .command
-  modes-command r v = either (λ (q : Registers). q .command ≡ r .command) (eqb (r .modes) 0) refl refl
 
   receive-off : (v : ℕ) (t : Bool) → on (cond t (d .receiver) (emptied (dropped (d .receiver))) .unread) ≡ cond (not t) false (unreadBy es)
   receive-off v true = a .unread
@@ -251,7 +244,7 @@ module _ (cs : List Call) where
 
   pub status-there : readRegister now 1 .value ≡ statusBy (history resetDevice cs [])
   unfolding readRegister
-  status-there = status-is now (history resetDevice cs []) agrees-now
+  status-there = after-kept resetDevice cs reset-in ∙ status-is now (history resetDevice cs []) agrees-now
 
   -- after any run from reset, a status read answers what the history says
   pub status-by-history : said now (Read 1) ≡ record { refusal = 0; values = statusBy (history resetDevice cs []) ∷ [] }

@@ -10,28 +10,32 @@ use Rattle.line_rules.specs.declared.Heard.{Heard}
 use Rattle.line_rules.specs.declared.Heard.the-variants.{Nothing, Character}
 use Rattle.line_rules.specs.Sending.{on, orSet}
 use Rattle.line_rules.proofs.Table.{both}
+use Rattle.link_rules.specs.declared.SenderHalf.{SenderHalf}
 use Rattle.link_rules.specs.declared.ReceiverHalf.{ReceiverHalf}
-use Rattle.link_rules.specs.Parts.{dropped}
+use Rattle.link_rules.specs.Parts.{loaded, dropped, emptied}
 use Rattle.link_rules.specs.Within.{senderInRange, receiverInRange}
 use Rattle.line_rules.proofs.Choice.{either, each, all}
 use Rattle.link_rules.proofs.SenderRange.{loaded-in, transmit-in}
 use Rattle.link_rules.proofs.ReceiverRange.{dropped-in, emptied-in, receive-in}
 use Rattle.ins2651_rules.specs.declared.Registers.{Registers}
+use Rattle.ins2651_rules.specs.declared.Pins.{Pins}
 use Rattle.ins2651_rules.specs.declared.Flags.{Flags}
 use Rattle.ins2651_rules.specs.declared.Device.{Device}
 use Rattle.ins2651_rules.specs.declared.Answer.{Answer}
 use Rattle.ins2651_rules.specs.declared.Ticked.{Ticked}
-use Rattle.ins2651_rules.specs.Shape.{resetDevice, withRegisters, withEmpty, withChange}
+use Rattle.ins2651_rules.specs.Shape.{resetDevice, withParts, withRegisters, withCommand, pinLevels, withEmpty, withChange}
 use Rattle.ins2651_rules.specs.Modes.{has, commandClears, transmitEnable, receiveEnable, sendFormat, receiveFormat}
 use Rattle.ins2651_rules.specs.Conditions.{mayStart, breakOn, listening, transmitEnabled}
-use Rattle.ins2651_rules.specs.Ranges.{mode1InRange, commandInRange, registersInRange, pinsInRange, flagsInRange, inRange}
+use Rattle.ins2651_rules.specs.Ranges.{mode1InRange, commandInRange, registersInRange, pinsInRange, flagsInRange, statusInRange, inRange}
+use Rattle.ins2651_rules.specs.Status.{statusByte}
 use Rattle.ins2651_rules.specs.Refusals.{mode1Refusal, modeRefusal, commandRefusal, writeRefusal, pinsRefusal}
 use Rattle.ins2651_rules.specs.RegisterReads.{readRegister}
-use Rattle.ins2651_rules.specs.RegisterWrites.{synsWritten, modesWritten, stored, unless, writeRegister}
+use Rattle.ins2651_rules.specs.RegisterWrites.{synsWritten, modesWritten, stored, unless, flagsCommanded, receiverCommanded, writeRegister}
 use Rattle.ins2651_rules.specs.Pinning.{changes, pinned}
 use Rattle.ins2651_rules.specs.Ticks.{sent, transmitTick, noted, received, receiveTick}
 use Rattle.ins2651_rules.specs.Runs.{Call, Reset, Read, Write, SetPins, Transmit, Receive, Outputs, next, after}
 use Rattle.ins2651_rules.specs.Rows.{refusal}
+use Rattle.ins2651_rules.proofs.StatusKept.{Kept, built-kept, unshown-kept, status-read-kept, sent-kept, heard-kept}
 use Rattle.ins2651_rules.proofs.Settled.{settled-is, reset-in}
 use Rattle.ins2651_rules.proofs.Done.{does-read, does-write, does-pins, does-transmit, does-receive}
 use Rattle.ins2651_rules.proofs.Commands.{bit4-gone, accepted-stored}
@@ -53,19 +57,21 @@ pub record In (d : Device) : Type 0 where
   pub sender : senderInRange (d .sender) ≡ true
   pub receiver : receiverInRange (d .receiver) ≡ true
   pub flags : flagsInRange (d .flags) ≡ true
+  pub status : Kept d
 
 pub parts : (d : Device) → inRange d ≡ true → In d
 unfolding inRange
 parts d h =
-    let f = both (registersInRange (d .registers) && pinsInRange (d .pins) && senderInRange (d .sender) && receiverInRange (d .receiver)) (flagsInRange (d .flags)) h in
+    let k = both (registersInRange (d .registers) && pinsInRange (d .pins) && senderInRange (d .sender) && receiverInRange (d .receiver) && flagsInRange (d .flags)) (statusInRange d) h in
+    let f = both (registersInRange (d .registers) && pinsInRange (d .pins) && senderInRange (d .sender) && receiverInRange (d .receiver)) (flagsInRange (d .flags)) (k .0) in
     let r = both (registersInRange (d .registers) && pinsInRange (d .pins) && senderInRange (d .sender)) (receiverInRange (d .receiver)) (f .0) in
     let s = both (registersInRange (d .registers) && pinsInRange (d .pins)) (senderInRange (d .sender)) (r .0) in
     let p = both (registersInRange (d .registers)) (pinsInRange (d .pins)) (s .0) in
-    record { registers = p .0; pins = p .1; sender = s .1; receiver = r .1; flags = f .1 }
+    record { registers = p .0; pins = p .1; sender = s .1; receiver = r .1; flags = f .1; status = eqb-true (d .status) (statusByte d) (k .1) }
 
 whole : {d : Device} → In d → inRange d ≡ true
 unfolding inRange
-whole p = five (p .registers) (p .pins) (p .sender) (p .receiver) (p .flags)
+whole p = all (five (p .registers) (p .pins) (p .sender) (p .receiver) (p .flags)) (eq-eqb _ _ (p .status))
 
 record RegistersIn (r : Registers) : Type 0 where
   mode1 : mode1InRange (r .accepted) (r .mode1) ≡ true
@@ -101,6 +107,13 @@ set-in t x h = either (λ (k : ℕ). leb k 1 ≡ true) t refl h
 cleared-in : (t : Bool) (x : ℕ) → leb x 1 ≡ true → leb (unless t x) 1 ≡ true
 cleared-in t x h = either (λ (k : ℕ). leb k 1 ≡ true) t refl h
 
+-- a SYN or mode write leaves the command
+pub syns-command : (r : Registers) (v : ℕ) → synsWritten r v .command ≡ r .command
+syns-command r v = either (λ (q : Registers). q .command ≡ r .command) (eqb (r .syns) 0) refl (either (λ (q : Registers). q .command ≡ r .command) (eqb (r .syns) 1) refl refl)
+
+pub modes-command : (r : Registers) (v : ℕ) → modesWritten r v .command ≡ r .command
+modes-command r v = either (λ (q : Registers). q .command ≡ r .command) (eqb (r .modes) 0) refl refl
+
 -- == each act, on a device whose parts are in range ==
 
 module _ (d : Device) (p : In d) where
@@ -119,19 +132,26 @@ module _ (d : Device) (p : In d) where
   empty-in : (x : ℕ) → leb x 1 ≡ true → flagsInRange (withEmpty (d .flags) x) ≡ true
   empty-in x h = five (f .framing) (f .overrun) (f .parity) h (f .change)
 
+  built : (q : Registers) (ps : Pins) (s : SenderHalf) (h : ReceiverHalf) (g : Flags) → Kept (withParts d q ps s h g)
+  built q ps s h g = built-kept d q ps s h g
+
+  registers-kept : (q : Registers) → q .command ≡ d .registers .command → Kept (withRegisters d q)
+  registers-kept q c = unshown-kept d (p .status) q (d .sender) (d .receiver) c refl refl
+
   read-in : (address : ℕ) → In (readRegister d address .device)
   unfolding readRegister
   read-in address =
       either (λ (o : Answer). In (o .device)) (eqb address 0)
-      (record { registers = p .registers; pins = p .pins; sender = p .sender; receiver = emptied-in (d .receiver) (p .receiver); flags = p .flags })
+      (record { registers = p .registers; pins = p .pins; sender = p .sender; receiver = emptied-in (d .receiver) (p .receiver); flags = p .flags; status = built (d .registers) (d .pins) (d .sender) (emptied (d .receiver)) (d .flags) })
       (either (λ (o : Answer). In (o .device)) (eqb address 1)
-      (record { registers = p .registers; pins = p .pins; sender = p .sender; receiver = p .receiver; flags = change-in 0 refl })
+      (record { registers = p .registers; pins = p .pins; sender = p .sender; receiver = p .receiver; flags = change-in 0 refl; status = status-read-kept d (p .status) })
       (either (λ (o : Answer). In (o .device)) (eqb address 2)
       (either (λ (o : Answer). In (o .device)) (eqb (d .registers .modes) 0) (moved 1 (d .registers .syns) refl (r .syns)) (moved 0 (d .registers .syns) refl (r .syns)))
       (moved 0 0 refl refl)))
     where
       moved : (m s : ℕ) → leb m 1 ≡ true → leb s 2 ≡ true → In (withRegisters d (pointing (d .registers) m s))
-      moved m s a b = record { registers = pointing-in m s a b; pins = p .pins; sender = p .sender; receiver = p .receiver; flags = p .flags }
+      moved m s a b =
+          record { registers = pointing-in m s a b; pins = p .pins; sender = p .sender; receiver = p .receiver; flags = p .flags; status = registers-kept (pointing (d .registers) m s) refl }
 
   syns-in : (v : ℕ) → registersInRange (synsWritten (d .registers) v) ≡ true
   syns-in v =
@@ -157,6 +177,7 @@ module _ (d : Device) (p : In d) where
         sender = p .sender;
         receiver = either (λ (q : ReceiverHalf). receiverInRange q ≡ true) (receiveEnable v) (p .receiver) (emptied-in (dropped (d .receiver)) (dropped-in (d .receiver) (p .receiver)));
         flags = five (cleared-in (commandClears v) (d .flags .framing) (f .framing)) (cleared-in (commandClears v) (d .flags .overrun) (f .overrun)) (cleared-in (commandClears v) (d .flags .parity) (f .parity)) (cleared-in (not (transmitEnable v)) (d .flags .empty) (f .empty)) (f .change);
+        status = built (withCommand (d .registers) (stored v)) (d .pins) (d .sender) (receiverCommanded (d .receiver) v) (flagsCommanded (d .flags) v);
       }
 
   pins-in : (dsr dcd cts : ℕ) → pinsRefusal dsr dcd cts ≡ 0 → In (pinned d dsr dcd cts)
@@ -168,6 +189,7 @@ module _ (d : Device) (p : In d) where
         sender = p .sender;
         receiver = p .receiver;
         flags = change-in (orSet (changes (d .pins) dsr dcd) (d .flags .change)) (set-in (changes (d .pins) dsr dcd) (d .flags .change) (f .change));
+        status = built (d .registers) (pinLevels dsr dcd cts) (d .sender) (d .receiver) (withChange (d .flags) (orSet (changes (d .pins) dsr dcd) (d .flags .change)));
       }
 
   transmit-tick-in : In (transmitTick d .device)
@@ -179,6 +201,7 @@ module _ (d : Device) (p : In d) where
         sender = transmit-in (d .sender) (mayStart d) (breakOn d) (sendFormat (d .registers)) (p .sender) (λ e. format-in (d .registers .mode1) (has 32 (d .registers .mode2)));
         receiver = p .receiver;
         flags = empty-in (orSet (sent d .drained && transmitEnabled d) (d .flags .empty)) (set-in (sent d .drained && transmitEnabled d) (d .flags .empty) (f .empty));
+        status = sent-kept d (p .status);
       }
 
   noted-in : (o : Bool) (h : Heard) → flagsInRange (noted (d .flags) o h) ≡ true
@@ -195,15 +218,16 @@ module _ (d : Device) (p : In d) where
         sender = p .sender;
         receiver = receive-in (d .receiver) (listening d) (receiveFormat (d .registers)) x (p .receiver) (λ e. format-in (d .registers .mode1) (has 16 (d .registers .mode2)));
         flags = noted-in (received d x .overrun) (received d x .heard);
+        status = heard-kept d (p .status) x;
       }
 
   write-in : (address v : ℕ) → writeRefusal (d .registers) address v ≡ 0 → In (writeRegister d address v)
   unfolding writeRegister
   write-in address v h =
       each In (eqb address 0)
-      (λ a. record { registers = p .registers; pins = p .pins; sender = loaded-in (d .sender) v (p .sender); receiver = p .receiver; flags = empty-in 0 refl }) λ a.
+      (λ a. record { registers = p .registers; pins = p .pins; sender = loaded-in (d .sender) v (p .sender); receiver = p .receiver; flags = empty-in 0 refl; status = built (d .registers) (d .pins) (loaded (d .sender) v) (d .receiver) (withEmpty (d .flags) 0) }) λ a.
       each In (eqb address 1)
-      (λ b. record { registers = syns-in v; pins = p .pins; sender = p .sender; receiver = p .receiver; flags = p .flags }) λ b.
+      (λ b. record { registers = syns-in v; pins = p .pins; sender = p .sender; receiver = p .receiver; flags = p .flags; status = registers-kept (synsWritten (d .registers) v) (syns-command (d .registers) v) }) λ b.
       each In (eqb address 2)
       (λ c. record {
         registers = modes-in v (mode-accepted (d .registers) v (subst (λ (k : ℕ). writeRefusal (d .registers) k v ≡ 0) (eqb-true address 2 c) h));
@@ -211,6 +235,7 @@ module _ (d : Device) (p : In d) where
         sender = p .sender;
         receiver = p .receiver;
         flags = p .flags;
+        status = registers-kept (modesWritten (d .registers) v) (modes-command (d .registers) v);
       })
       (λ c. commanded-in v (command-accepted (d .registers) v (subst (λ (k : ℕ). writeRefusal (d .registers) k v ≡ 0) (address-is-3 (d .registers) address v h a b c) h)))
 
@@ -249,3 +274,12 @@ after-in d (c ∷ cs) h = after-in (next d c) cs (next-in d c h)
 -- reset is in range, and no run of calls leaves the ranges
 pub runs-stay-in-range : (cs : List Call) → inRange (after resetDevice cs) ≡ true
 runs-stay-in-range cs = after-in resetDevice cs reset-in
+
+-- == the stored status byte (P7) ==
+
+pub status-kept : (d : Device) → inRange d ≡ true → Kept d
+status-kept d h = parts d h .status
+
+-- after any run of calls from any device in range the stored byte is the status that document 01 says
+pub after-kept : (d : Device) (cs : List Call) → inRange d ≡ true → after d cs .status ≡ statusByte (after d cs)
+after-kept d cs h = status-kept (after d cs) (after-in d cs h)

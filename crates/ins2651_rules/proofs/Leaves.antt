@@ -13,7 +13,7 @@ use Rattle.ins2651_rules.specs.declared.Registers.{Registers}
 use Rattle.ins2651_rules.specs.declared.Device.{Device}
 use Rattle.ins2651_rules.specs.declared.Answer.{Answer}
 use Rattle.ins2651_rules.specs.declared.Outcome.{Outcome}
-use Rattle.ins2651_rules.specs.Shape.{withRegisters, withReceiver, withModePointer, withSynPointer, withSyn1, withSyn2, withDle, withChange}
+use Rattle.ins2651_rules.specs.Shape.{withStatus, withRegisters, withReceiver, withModePointer, withSynPointer, withSyn1, withSyn2, withDle, withChange}
 use Rattle.ins2651_rules.specs.Ranges.{settled}
 use Rattle.ins2651_rules.specs.RegisterReads.{readRegister}
 use Rattle.ins2651_rules.specs.Pinning.{pinned}
@@ -111,11 +111,11 @@ pub record ReadLeaves (d e : Device) : Type 0 where
   pub errors : SameErrors (d .flags) (e .flags)
   pub empty : e .flags .empty ≡ d .flags .empty
 
--- other pointers and other marks
-moved : (d : Device) (m s u c : ℕ)
-    → ReadLeaves d (withReceiver (withRegisters d (pointing (d .registers) m s))
-    (record { state = d .receiver .state; format = d .receiver .format; holding = d .receiver .holding; unread = u; stamp = d .receiver .stamp; tally = d .receiver .tally }) (withChange (d .flags) c))
-moved d m s u c =
+-- other pointers, other marks and another status
+moved : (d : Device) (m s u c v : ℕ)
+    → ReadLeaves d (withStatus (withReceiver (withRegisters d (pointing (d .registers) m s))
+    (record { state = d .receiver .state; format = d .receiver .format; holding = d .receiver .holding; unread = u; stamp = d .receiver .stamp; tally = d .receiver .tally }) (withChange (d .flags) c)) v)
+moved d m s u c v =
     record {
       mode1 = refl;
       mode2 = refl;
@@ -143,10 +143,10 @@ register-leaves d address =
     let s : ℕ = d .registers .syns in
     let u : ℕ = d .receiver .unread in
     let c : ℕ = d .flags .change in
-    either Left (eqb address 0) (moved d m s 0 c)
-    (either Left (eqb address 1) (moved d m s u 0)
-    (either Left (eqb address 2) (either Left (eqb m 0) (moved d 1 s u c) (moved d 0 s u c))
-    (moved d 0 0 u c)))
+    either Left (eqb address 0) (moved d m s 0 c _)
+    (either Left (eqb address 1) (moved d m s u 0 _)
+    (either Left (eqb address 2) (either Left (eqb m 0) (moved d 1 s u c _) (moved d 0 s u c _))
+    (moved d 0 0 u c _)))
 
 -- a read changes the two pointers, the unread mark and the change-mark alone
 pub read-leaves : (d : Device) (address : ℕ) → refusal d (Read address) ≡ 0 → ReadLeaves (settled d) (next d (Read address))

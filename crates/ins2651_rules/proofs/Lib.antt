@@ -1,3 +1,4 @@
+pub mod StatusKept
 pub mod Settled
 pub mod RestsInRange
 pub mod Done

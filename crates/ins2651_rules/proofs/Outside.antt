@@ -13,7 +13,8 @@ use Rattle.ins2651_rules.specs.declared.Answer.{Answer}
 use Rattle.ins2651_rules.specs.declared.Outcome.{Outcome}
 use Rattle.ins2651_rules.specs.declared.Ticked.{Ticked}
 use Rattle.ins2651_rules.specs.Shape.{resetDevice, done}
-use Rattle.ins2651_rules.specs.Status.{outputsOf, outputs}
+use Rattle.ins2651_rules.specs.Status.{outputsOf}
+use Rattle.ins2651_rules.specs.Looks.{outputs}
 use Rattle.ins2651_rules.specs.Ranges.{inRange, settled}
 use Rattle.ins2651_rules.specs.Stamps.{stamp, start, transmitTally, receiveTally}
 use Rattle.ins2651_rules.specs.Refusals.{writeRefusal}

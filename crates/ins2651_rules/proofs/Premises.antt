@@ -38,7 +38,7 @@ abbrev between : List Call
 between = Write 2 78 ∷ Transmit ∷ Transmit ∷ Write 3 9 ∷ Transmit ∷ Transmit ∷ SetPins 0 0 1 ∷ Transmit ∷ Transmit ∷ Write 3 0 ∷ Transmit ∷ Transmit ∷ Read 1 ∷ Transmit ∷ Receive 0 ∷ Outputs ∷ []
 
 sends-65 : levelsSent (next (chipWith 77) (Write 0 65)) (Transmit ∷ between) ≡ map bit (frame (externalFormat 77) 65)
-unfolding line-range.inRange senderInRange receiverInRange formatOf inRange settled writeRefusal writeRegister write pinned setPins
+unfolding line-range.inRange senderInRange receiverInRange formatOf statusByte inRange settled writeRefusal writeRegister write pinned setPins
 sends-65 = frame-sent (chipWith 77) 65 refl refl refl refl between refl refl
 
 -- the same, where between the write and the first level CTS is high for two ticks and status is read

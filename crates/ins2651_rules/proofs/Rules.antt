@@ -17,7 +17,7 @@ use Rattle.ins2651_rules.specs.declared.Device.{Device}
 use Rattle.ins2651_rules.specs.declared.Answer.{Answer}
 use Rattle.ins2651_rules.specs.Modes.{has, formatOf, sendFormat, receiveFormat, receiveEnable}
 use Rattle.ins2651_rules.specs.Conditions.{modeSet, mayStart, breakOn, listening}
-use Rattle.ins2651_rules.specs.Shape.{withReceiver}
+use Rattle.ins2651_rules.specs.Shape.{withUnshown}
 use Rattle.ins2651_rules.specs.Ranges.{inRange, settled}
 use Rattle.ins2651_rules.specs.Refusals.{commandRefusal, writeRefusal}
 use Rattle.ins2651_rules.specs.RegisterReads.{readRegister}
@@ -99,8 +99,8 @@ reset-clears d =
 
 -- == what drops a character ==
 
--- a receive tick while receive is off, DCD high or mode unset: it counts; RHR, the flags and all else stay
-pub off-tick-drops : (d : Device) (x : ℕ) → inRange d ≡ true → listening d ≡ false → refusal d (Receive x) ≡ 0 → next d (Receive x) ≡ withReceiver d (dropped (receiverLater 1 (d .receiver))) (d .flags)
+-- a receive tick while receive is off, DCD high or mode unset: it counts; RHR, the flags, the status and all else stay
+pub off-tick-drops : (d : Device) (x : ℕ) → inRange d ≡ true → listening d ≡ false → refusal d (Receive x) ≡ 0 → next d (Receive x) ≡ withUnshown d (d .registers) (d .sender) (dropped (receiverLater 1 (d .receiver)))
 unfolding receiveTick
 off-tick-drops d x h r n =
     does-receive d h x n

@@ -6,6 +6,7 @@ use Rattle.line_rules.proofs.Choice.{all}
 use Rattle.link_rules.proofs.SenderRange.{idle-sender-in}
 use Rattle.link_rules.proofs.ReceiverRange.{idle-receiver-in}
 use Rattle.ins2651_rules.specs.declared.Device.{Device}
+use Rattle.ins2651_rules.specs.Status.{statusByte}
 use Rattle.ins2651_rules.specs.Shape.{resetDevice}
 use Rattle.ins2651_rules.specs.Ranges.{inRange, settled}
 
@@ -18,8 +19,8 @@ unfolding settled
 settled-out d h = rw h
 
 pub reset-in : inRange resetDevice ≡ true
-unfolding inRange
-reset-in = all (all (all refl idle-sender-in) idle-receiver-in) refl
+unfolding inRange statusByte
+reset-in = all (all (all (all refl idle-sender-in) idle-receiver-in) refl) refl
 
 pub settled-in : (d : Device) → inRange (settled d) ≡ true
 settled-in d = go (inRange d) refl

@@ -11,10 +11,13 @@ use Rattle.ins2651_rules.specs.declared.Device.{Device}
 use Rattle.ins2651_rules.specs.declared.Answer.{Answer}
 use Rattle.ins2651_rules.specs.Modes.{has}
 use Rattle.ins2651_rules.specs.Conditions.{dataSetReady, carrier, eitherMark, unread, mayWrite}
-use Rattle.ins2651_rules.specs.Status.{weigh, statusByte, outputsOf, outputs}
+use Rattle.ins2651_rules.specs.Status.{weigh, statusByte, outputsOf}
+use Rattle.ins2651_rules.specs.Looks.{outputs}
 use Rattle.ins2651_rules.specs.Ranges.{settled}
 use Rattle.ins2651_rules.specs.RegisterReads.{readRegister, read}
+use Rattle.ins2651_rules.proofs.Settled.{settled-in}
 use Rattle.ins2651_rules.proofs.Done.{done-read}
+use Rattle.ins2651_rules.proofs.InRange.{status-kept}
 
 weighed : (b : Bool) (w : ℕ) → weigh b w ≡ w * bit b
 weighed true w = let e : w ≡ w * 1 = omega arith in e
@@ -75,7 +78,7 @@ pub record Complements (d : Device) : Type 0 where
 pub outputs-complement : (d : Device) → Complements d
 unfolding outputs outputsOf readRegister
 outputs-complement d =
-    let s : read d 1 .value ≡ statusByte (settled d) = ap (λ (o : Answer). o .value) (done-read d 1 refl) in
+    let s : read d 1 .value ≡ statusByte (settled d) = ap (λ (o : Answer). o .value) (done-read d 1 refl) ∙ status-kept (settled d) (settled-in d) in
     let c : read d 3 .value ≡ settled d .registers .command = ap (λ (o : Answer). o .value) (done-read d 3 refl) in
     let b = status-bits (settled d) in
     record {

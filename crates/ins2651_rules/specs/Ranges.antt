@@ -11,6 +11,7 @@ use Rattle.ins2651_rules.specs.declared.Flags.{Flags}
 use Rattle.ins2651_rules.specs.declared.Device.{Device}
 use Rattle.ins2651_rules.specs.Modes.{has}
 use Rattle.ins2651_rules.specs.Refusals.{mode1Refusal, commandRefusal}
+use Rattle.ins2651_rules.specs.Status.{statusByte}
 use Rattle.ins2651_rules.specs.Shape.{resetDevice}
 
 -- until one was accepted mode 1 is 0, and then one that is not refused
@@ -30,6 +31,10 @@ pinsInRange p = leb (p .dsr) 1 && leb (p .dcd) 1 && leb (p .cts) 1
 abbrev pub flagsInRange : Flags → Bool
 flagsInRange f = leb (f .framing) 1 && leb (f .overrun) 1 && leb (f .parity) 1 && leb (f .empty) 1 && leb (f .change) 1
 
+-- the stored byte is what the other fields mean (P7)
+abbrev pub statusInRange : Device → Bool
+statusInRange d = eqb (d .status) (statusByte d)
+
 unfoldable pub inRange : Device → Bool
 inRange d =
     registersInRange (d .registers)
@@ -37,6 +42,7 @@ inRange d =
     && senderInRange (d .sender)
     && receiverInRange (d .receiver)
     && flagsInRange (d .flags)
+    && statusInRange d
 
 -- the same of a device with no frame and no character under way, where that is known (proofs/RestsInRange.antt)
 unfoldable pub restsInRange : Device → Bool
@@ -46,6 +52,7 @@ restsInRange d =
     && senderRestsInRange (d .sender)
     && receiverRestsInRange (d .receiver)
     && flagsInRange (d .flags)
+    && statusInRange d
 
 -- the device itself, or the one just reset where it is out of range
 unfoldable pub settled : Device → Device

@@ -3,21 +3,21 @@
 use Prim.Native.Nat.{ℕ}
 use mathlib.Core.Bool.{cond}
 use lib.Dec.{eqb}
+use Rattle.line_rules.specs.Sending.{on}
 use Rattle.link_rules.specs.Parts.{emptied}
 use Rattle.ins2651_rules.specs.declared.Device.{Device}
 use Rattle.ins2651_rules.specs.declared.Answer.{Answer}
-use Rattle.ins2651_rules.specs.Shape.{withRegisters, withFlags, withReceiver, withChange, toMode1, toMode2, toSyn1, answered, refusedRead}
+use Rattle.ins2651_rules.specs.Shape.{withRegisters, withFlags, withReceiver, statusIf, withChange, toMode1, toMode2, toSyn1, answered, refusedRead}
 use Rattle.ins2651_rules.specs.Ranges.{settled}
 use Rattle.ins2651_rules.specs.Refusals.{readRefusal}
-use Rattle.ins2651_rules.specs.Status.{statusByte}
 
 -- RHR gives what it last held, and is read
 abbrev pub readHolding : Device → Answer
 readHolding d = answered (d .receiver .holding) (withReceiver d (emptied (d .receiver)) (d .flags))
 
--- the value is from before the change-mark is cleared
+-- the stored byte, from before the change-mark is cleared; where there is none to clear the byte stays
 abbrev pub readStatus : Device → Answer
-readStatus d = answered (statusByte d) (withFlags d (withChange (d .flags) 0))
+readStatus d = answered (d .status) (statusIf (on (d .flags .change)) d (withFlags d (withChange (d .flags) 0)))
 
 -- the mode pointer moves, and wraps
 abbrev pub readMode : Device → Answer

@@ -6,7 +6,7 @@ use mathlib.Core.List.{List, [], _∷_}
 use Rattle.ins2651_rules.specs.declared.Device.{Device}
 use Rattle.ins2651_rules.specs.declared.OutputPins.{OutputPins}
 use Rattle.ins2651_rules.specs.Shape.{resetDevice}
-use Rattle.ins2651_rules.specs.Status.{outputs}
+use Rattle.ins2651_rules.specs.Looks.{outputs}
 use Rattle.ins2651_rules.specs.RegisterReads.{read}
 use Rattle.ins2651_rules.specs.RegisterWrites.{write}
 use Rattle.ins2651_rules.specs.Pinning.{setPins}

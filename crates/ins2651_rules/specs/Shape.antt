@@ -2,6 +2,7 @@
 -- its pins or its flags field by field, so that a new field is one change.
 -- Assumes nothing.
 use Prim.Native.Nat.{ℕ}
+use mathlib.Core.Bool.{Bool, cond}
 use Rattle.link_rules.specs.declared.SenderHalf.{SenderHalf}
 use Rattle.link_rules.specs.declared.ReceiverHalf.{ReceiverHalf}
 use Rattle.link_rules.specs.Parts.{idleSender, idleReceiver, senderLater, receiverLater}
@@ -12,13 +13,18 @@ use Rattle.ins2651_rules.specs.declared.Device.{Device}
 use Rattle.ins2651_rules.specs.declared.Answer.{Answer}
 use Rattle.ins2651_rules.specs.declared.Outcome.{Outcome}
 use Rattle.ins2651_rules.specs.declared.Ticked.{Ticked}
+use Rattle.ins2651_rules.specs.Status.{statusByte}
+
+abbrev pub withStatus : Device → ℕ → Device
+withStatus d v = record { registers = d .registers; pins = d .pins; sender = d .sender; receiver = d .receiver; flags = d .flags; status = v }
+
+-- with the status byte that its other fields mean: no other definition puts the byte together (P7)
+abbrev pub statusKept : Device → Device
+statusKept d = withStatus d (statusByte (withStatus d 0))
 
 -- a device of these parts, and of what d has besides
 abbrev pub withParts : Device → Registers → Pins → SenderHalf → ReceiverHalf → Flags → Device
-withParts d r p s h f = record { registers = r; pins = p; sender = s; receiver = h; flags = f }
-
-abbrev pub withRegisters : Device → Registers → Device
-withRegisters d r = withParts d r (d .pins) (d .sender) (d .receiver) (d .flags)
+withParts d r p s h f = statusKept (record { registers = r; pins = p; sender = s; receiver = h; flags = f; status = d .status })
 
 abbrev pub withFlags : Device → Flags → Device
 withFlags d f = withParts d (d .registers) (d .pins) (d .sender) (d .receiver) f
@@ -32,16 +38,30 @@ withSender d s f = withParts d (d .registers) (d .pins) s (d .receiver) f
 abbrev pub withReceiver : Device → ReceiverHalf → Flags → Device
 withReceiver d h f = withParts d (d .registers) (d .pins) (d .sender) h f
 
+-- == where no bit of the status changes: the byte stays, and is not put together again ==
+
+-- n, which d has become, with the byte of d where nothing has happened that a bit goes by
+abbrev pub statusIf : Bool → Device → Device → Device
+statusIf happened d n = withStatus n (cond happened (n .status) (d .status))
+
+-- other registers with the same command, and halves with the same marks
+abbrev pub withUnshown : Device → Registers → SenderHalf → ReceiverHalf → Device
+withUnshown d r s h = record { registers = r; pins = d .pins; sender = s; receiver = h; flags = d .flags; status = d .status }
+
+-- registers with the same command
+abbrev pub withRegisters : Device → Registers → Device
+withRegisters d r = withUnshown d r (d .sender) (d .receiver)
+
 -- with one transmit tick more in its tally, or one receive tick (P4)
 abbrev pub sendCounted : Device → Device
-sendCounted d = withSender d (senderLater 1 (d .sender)) (d .flags)
+sendCounted d = withUnshown d (d .registers) (senderLater 1 (d .sender)) (d .receiver)
 
 abbrev pub hearCounted : Device → Device
-hearCounted d = withReceiver d (receiverLater 1 (d .receiver)) (d .flags)
+hearCounted d = withUnshown d (d .registers) (d .sender) (receiverLater 1 (d .receiver))
 
 -- with n ticks more in each
 abbrev pub deviceLater : ℕ → Device → Device
-deviceLater n d = withParts d (d .registers) (d .pins) (senderLater n (d .sender)) (receiverLater n (d .receiver)) (d .flags)
+deviceLater n d = withUnshown d (d .registers) (senderLater n (d .sender)) (receiverLater n (d .receiver))
 
 -- == registers ==
 
@@ -108,7 +128,7 @@ withChange f c = record { framing = f .framing; overrun = f .overrun; parity = f
 
 -- == reset ==
 
--- every register clear, both holding registers empty, nothing under way, the receiver waiting for a 1, all three inputs high
+-- every register clear, both holding registers empty, nothing under way, the receiver waiting for a 1, all three inputs high: the status is 0
 abbrev pub resetDevice : Device
 resetDevice =
     record {
@@ -117,6 +137,7 @@ resetDevice =
       sender = idleSender;
       receiver = idleReceiver;
       flags = record { framing = 0; overrun = 0; parity = 0; empty = 0; change = 0 };
+      status = 0;
     }
 
 -- == answers ==

@@ -8,7 +8,6 @@ use Rattle.ins2651_rules.specs.declared.Flags.{Flags}
 use Rattle.ins2651_rules.specs.declared.OutputPins.{OutputPins}
 use Rattle.ins2651_rules.specs.Modes.{dataTerminalReady, requestToSend}
 use Rattle.ins2651_rules.specs.Conditions.{dataSetReady, carrier, eitherMark, unread, mayWrite}
-use Rattle.ins2651_rules.specs.Ranges.{settled}
 
 abbrev pub weigh : Bool → ℕ → ℕ
 weigh b w = cond b w 0
@@ -25,12 +24,9 @@ errorBits f = weigh (on (f .framing)) 32 + weigh (on (f .overrun)) 16 + weigh (o
 abbrev pub readyBits : Device → ℕ
 readyBits d = weigh (eitherMark d) 4 + weigh (unread d) 2 + weigh (mayWrite d) 1
 
+-- what the stored byte of a device must be; it goes by every other field and not by that one (P7)
 unfoldable pub statusByte : Device → ℕ
 statusByte d = modemBits d + errorBits (d .flags) + readyBits d
-
--- the status looked at and not read: the change-mark stays
-unfoldable pub peek : Device → ℕ
-peek d = statusByte (settled d)
 
 -- TxRDY, RxRDY and TxEMT/DSCHG are the complements of status bits 0, 1 and 2; DTR and RTS of command bits 1 and 5
 unfoldable pub outputsOf : Device → OutputPins
@@ -42,7 +38,3 @@ outputsOf d =
       dtr = bit (not (dataTerminalReady (d .registers .command)));
       rts = bit (not (requestToSend (d .registers .command)));
     }
-
--- the call
-unfoldable pub outputs : Device → OutputPins
-outputs d = outputsOf (settled d)

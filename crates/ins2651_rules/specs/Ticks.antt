@@ -1,21 +1,23 @@
 -- The two ticks: document 01, "Sending, by transmit ticks" and "Receiving, by receive ticks". What a half does at a tick stands in link_rules.
 -- Assumes nothing.
 use Prim.Native.Nat.{ℕ}
-use mathlib.Core.Bool.{Bool, cond, _&&_}
+use mathlib.Core.Bool.{Bool, true, cond, _&&_, _||_}
 use lib.Dec.{eqb}
+use Rattle.line_rules.specs.declared.Arrival.{Arrival}
 use Rattle.line_rules.specs.declared.Heard.{Heard}
 use Rattle.line_rules.specs.declared.Heard.the-variants.{Nothing, Character}
 use Rattle.line_rules.specs.Sending.{bit, on, orSet}
 use Rattle.link_rules.specs.declared.Sent.{Sent}
 use Rattle.link_rules.specs.declared.Received.{Received}
 use Rattle.link_rules.specs.Transmitting as link-transmitting
+use Rattle.link_rules.specs.Hearing.{arrives}
 use Rattle.link_rules.specs.Hearing as link-hearing
 use Rattle.ins2651_rules.specs.declared.Flags.{Flags}
 use Rattle.ins2651_rules.specs.declared.Device.{Device}
 use Rattle.ins2651_rules.specs.declared.Answer.{Answer}
 use Rattle.ins2651_rules.specs.declared.Outcome.{Outcome}
 use Rattle.ins2651_rules.specs.declared.Ticked.{Ticked}
-use Rattle.ins2651_rules.specs.Shape.{withSender, withReceiver, withErrors, withEmpty, answered, refusedRead, done, refused, ticked}
+use Rattle.ins2651_rules.specs.Shape.{withSender, withReceiver, statusIf, withErrors, withEmpty, answered, refusedRead, done, refused, ticked}
 use Rattle.ins2651_rules.specs.Modes.{sendFormat, receiveFormat}
 use Rattle.ins2651_rules.specs.Conditions.{transmitEnabled, mayStart, breakOn, listening}
 use Rattle.ins2651_rules.specs.Ranges.{settled}
@@ -27,9 +29,14 @@ use Rattle.ins2651_rules.specs.Refusals.{levelRefusal}
 abbrev pub sent : Device → Sent
 sent d = link-transmitting.transmit (d .sender) (mayStart d) (breakOn d) (sendFormat (d .registers))
 
--- the empty-mark is set where the tick ends a frame with THR empty and transmit enabled
+-- the tick ends a frame with THR empty and transmit enabled: it sets the empty-mark
+abbrev pub runsEmpty : Device → Sent → Bool
+runsEmpty d s = s .drained && transmitEnabled d
+
+-- the status changes where a frame takes the character from THR, or the empty-mark is set
 abbrev pub sentBy : Device → Sent → Ticked
-sentBy d s = ticked (bit (s .level)) (withSender d (s .half) (withEmpty (d .flags) (orSet (s .drained && transmitEnabled d) (d .flags .empty))))
+sentBy d s =
+    ticked (bit (s .level)) (statusIf (s .began || runsEmpty d s) d (withSender d (s .half) (withEmpty (d .flags) (orSet (runsEmpty d s) (d .flags .empty)))))
 
 -- the tick of a device in range
 unfoldable pub transmitTick : Device → Ticked
@@ -50,8 +57,13 @@ abbrev pub noted : Flags → Bool → Heard → Flags
 noted f overrun Nothing = f
 noted f overrun (Character a) = withErrors f (orSet (a .framing) (f .framing)) (orSet overrun (f .overrun)) (orSet (a .parity) (f .parity))
 
+-- how many characters arrive with it, 0 or 1
+abbrev pub arrivals : Received → ℕ
+arrivals r = bit (arrives (λ (a : Arrival). true) (r .heard))
+
+-- the status changes where one arrives
 abbrev pub receivedBy : Device → Received → Device
-receivedBy d r = withReceiver d (r .half) (noted (d .flags) (r .overrun) (r .heard))
+receivedBy d r = statusIf (on (arrivals r)) d (withReceiver d (r .half) (noted (d .flags) (r .overrun) (r .heard)))
 
 -- the tick of a device in range
 unfoldable pub receiveTick : Device → Bool → Device

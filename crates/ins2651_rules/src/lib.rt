@@ -35,6 +35,7 @@ pub struct Flags {
     pub change: u8,
 }
 
+// `status` is the status byte, which every call keeps (P7).
 #[repr(C)]
 pub struct Device {
     pub registers: Registers,
@@ -42,6 +43,7 @@ pub struct Device {
     pub sender: SenderHalf,
     pub receiver: ReceiverHalf,
     pub flags: Flags,
+    pub status: u8,
 }
 
 // What a register read answers.

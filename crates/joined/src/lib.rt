@@ -6,11 +6,11 @@ ghost use mathlib.Core.Path.{_≡_};
 ghost use mathlib.Core.Bool.{_&&_};
 ghost use Rattle.ins2651_rules.specs.Ranges.{inRange};
 ghost use Rattle.joined_rules.specs.Joining;
-ghost use Rattle.joined_rules.specs.Joining.{settledPair, joinedTick, joinedTicks, ticks};
+ghost use Rattle.joined_rules.specs.Joining.{settledPair, joinedTick, ticks};
 ghost use Rattle.joined_rules.specs.TwoWays;
-ghost use Rattle.joined_rules.specs.TwoWays.{endsOf, wayOf, withEnds, withWays, pairLater};
+ghost use Rattle.joined_rules.specs.TwoWays.{endsOf, wayOf, withEnds, withWays, alongBoth, pairLater};
 ghost use Rattle.joined_rules.specs.Waiting;
-ghost use Rattle.joined_rules.specs.Waiting.{waited, waitedOn};
+ghost use Rattle.joined_rules.specs.Waiting.{waited, waitedAlong};
 ghost use Rattle.ins2651_ends.specs.OnALine as chip;
 ghost use Rattle.way_rules.specs.Calm.{wayStands};
 ghost use Rattle.way_rules.specs.Until.{doneUntil};
@@ -119,7 +119,7 @@ fn with_ends(mut d: Device, out: Moved, back: Moved) -> Device
     d.sender = sender;
     d.receiver = receiver;
     d.flags = flags;
-    d
+    ins2651::keep_status(d)
 }
 
 // n ticks of the way from a to b; or, where it is watched for, those up to the first after which a character is unread at b.
@@ -139,9 +139,9 @@ fn with_ways(p: Pair, there: Moved, back: Moved) -> Pair
     }
 }
 
-// n joined ticks of a pair in range: n of each way.
+// n ticks of each way, which are n joined ticks of a pair in range.
 fn ticks_on(p: Pair, n: u16) -> Pair
-    ensures { λ r. ⌜ r ≡ joinedTicks n p ⌝ }
+    ensures { λ r. ⌜ r ≡ alongBoth n p ⌝ }
 {
     let there = one_way(p.a, p.b, n, false);
     let back = one_way(p.b, p.a, n, false);
@@ -232,7 +232,7 @@ pub fn unread(p: Pair, unit: Unit) -> bool
 
 // A wait of a pair in range: the way that comes to the unit is run until a character is unread there, and the other one for as long.
 fn wait_on(p: Pair, unit: Unit, limit: u16) -> Waited
-    ensures { λ r. ⌜ r ≡ waitedOn p unit limit ⌝ }
+    ensures { λ r. ⌜ r ≡ waitedAlong p unit limit ⌝ }
 {
     match unit {
         Unit::A => {

@@ -34,7 +34,7 @@ settled-both p = record { a = settled-in (p .a); b = settled-in (p .b) }
 pub settled-pair : (p : Pair) → BothIn p → settledPair p ≡ p
 settled-pair p h = ap₂ (λ (a b : Device). record { a = a; b = b }) (settled-is (p .a) (h .a)) (settled-is (p .b) (h .b))
 
-joined-in : (p : Pair) → BothIn p → BothIn (joinedTick p .pair)
+pub joined-in : (p : Pair) → BothIn p → BothIn (joinedTick p .pair)
 unfolding joinedTick
 joined-in p h =
     record {

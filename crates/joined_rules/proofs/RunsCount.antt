@@ -38,7 +38,7 @@ along-counts n p =
     let i = joined-ticks-in n s (settled-both p) in
     let there = ways-count (endsOf (s .a) (s .b)) n (wayOf (s .a) (s .b)) in
     let back = ways-count (endsOf (s .b) (s .a)) n (wayOf (s .b) (s .a)) in
-    let e = two-ways n s in
+    let e = two-ways n s (settled-both p) in
     record {
       a-sent = sent-is (q .a) (i .a) ∙ ap (λ (r : Pair). r .a .sender .tally) e ∙ there .0;
       a-heard = heard-is (q .a) (i .a) ∙ ap (λ (r : Pair). r .a .receiver .tally) e ∙ back .1;

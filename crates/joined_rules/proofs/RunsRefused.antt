@@ -36,7 +36,7 @@ run-of-none p = run-done p 0 (omega arith)
 
 -- .. and of some: a run of each way of the pair as it is taken
 pub run-is-two-ways : (p : Pair) (n : ℕ) → 0 < n → n ≤ 65535 → run p n ≡ record { refusal = 0; pair = alongBoth n (settledPair p) }
-run-is-two-ways p n z h = run-done p n h ∙ ap (λ (q : Pair). record { refusal = 0; pair = q }) (sym (settled-ticks n p z) ∙ two-ways n (settledPair p))
+run-is-two-ways p n z h = run-done p n h ∙ ap (λ (q : Pair). record { refusal = 0; pair = q }) (sym (settled-ticks n p z) ∙ two-ways n (settledPair p) (settled-both p))
 
 -- .. each device as one call of the chip would take it, by itself
 pub run-settles : (p : Pair) (n : ℕ) → 0 < n → n ≤ 65535 → run p n ≡ run (settledPair p) n

@@ -1,7 +1,7 @@
 -- A pair that stands is left as it is by any number of joined ticks but for its tallies, and a pair in range of which a tick moves no more stands.
 -- Assumes nothing.
 use Prim.Native.Nat.{ℕ}
-use mathlib.Core.Path.{_≡_, ap, ap₂, sym, _∙_}
+use mathlib.Core.Path.{_≡_, refl, ap, ap₂, sym, _∙_}
 use mathlib.Core.Bool.{Bool, true, false, not, _&&_}
 use lib.Dec.{ltb}
 use borrow.Author.Tests.{eqb-true, le-ltb}
@@ -17,7 +17,11 @@ use Rattle.way_rules.specs.Along.{wayTick}
 use Rattle.way_rules.specs.Calm.{breaks, senderStands, wayStands}
 use Rattle.way_rules.proofs.Standing.{way-stands}
 use Rattle.way_rules.proofs.StandsExactly.{unchanged-stands}
+use Rattle.link_rules.specs.Parts.{senderLater, receiverLater}
+use Rattle.ins2651_rules.specs.declared.Device.{Device}
+use Rattle.ins2651_rules.specs.Shape.{statusKept, deviceLater}
 use Rattle.ins2651_rules.specs.Ranges.{inRange, restsInRange}
+use Rattle.ins2651_rules.proofs.StatusKept.{Kept, kept-is, unshown-kept}
 use Rattle.ins2651_rules.proofs.InRange.{parts}
 use Rattle.ins2651_rules.proofs.RestsInRange.{rests-in-range}
 use Rattle.joined_rules.specs.declared.Pair.{Pair}
@@ -25,7 +29,11 @@ use Rattle.joined_rules.specs.declared.Joined.{Joined}
 use Rattle.joined_rules.specs.Joining.{joinedTick, tick, ticks}
 use Rattle.joined_rules.specs.TwoWays.{endsOf, wayOf, withWays, alongBoth, pairLater, stands}
 use Rattle.joined_rules.proofs.Runs.{BothIn, settled-pair, tick-is, in-range-ticks}
-use Rattle.joined_rules.proofs.TwoWays.{both-move, two-ways}
+use Rattle.joined_rules.proofs.TwoWays.{both-kept, both-move, two-ways}
+
+-- tallies are no part of the status
+later-kept : (n : ℕ) (d : Device) → Kept d → statusKept (deviceLater n d) ≡ deviceLater n d
+later-kept n d k = kept-is (deviceLater n d) (unshown-kept d k (d .registers) (senderLater n (d .sender)) (receiverLater n (d .receiver)) refl refl refl)
 
 pub stands-counts : (p : Pair) (n : ℕ) → stands p ≡ true → ticks n p ≡ pairLater n p
 unfolding stands alongBoth
@@ -35,9 +43,12 @@ stands-counts p n h =
     let b = both (there && back && inRange (p .a)) (inRange (p .b)) h in
     let a = both (there && back) (inRange (p .a)) (b .0) in
     let s = both there back (a .0) in
-    in-range-ticks n p (record { a = a .1; b = b .1 })
-    ∙ two-ways n p
+    let i : BothIn p = record { a = a .1; b = b .1 } in
+    let k = both-kept p i in
+    in-range-ticks n p i
+    ∙ two-ways n p i
     ∙ ap₂ (withWays p) (way-stands (endsOf (p .a) (p .b)) n (wayOf (p .a) (p .b)) (s .0)) (way-stands (endsOf (p .b) (p .a)) n (wayOf (p .b) (p .a)) (s .1))
+    ∙ ap₂ (λ (a b : Device). record { a = a; b = b }) (later-kept n (p .a) (k .0)) (later-kept n (p .b) (k .1))
 
 -- .. and of the pairs in range a single tick changes more of every other: one of which it only counts has both ways left so
 pub counted-pair-stands : (p : Pair) → BothIn p → tick p .pair ≡ pairLater 1 p → stands p ≡ true
@@ -45,7 +56,7 @@ unfolding stands
 counted-pair-stands p i h =
     let there : Way = wayTick (endsOf (p .a) (p .b)) (wayOf (p .a) (p .b)) in
     let back : Way = wayTick (endsOf (p .b) (p .a)) (wayOf (p .b) (p .a)) in
-    let same : withWays p there back ≡ pairLater 1 p = sym (ap (λ (o : Joined). o .pair) (tick-is p ∙ ap joinedTick (settled-pair p i)) ∙ both-move p) ∙ h in
+    let same : withWays p there back ≡ pairLater 1 p = sym (ap (λ (o : Joined). o .pair) (tick-is p ∙ ap joinedTick (settled-pair p i)) ∙ both-move p i) ∙ h in
     let s = unchanged-stands (endsOf (p .a) (p .b)) (wayOf (p .a) (p .b)) (parts (p .b) (i .b) .receiver) (ap (λ (q : Pair). wayOf (q .a) (q .b)) same) in
     let r = unchanged-stands (endsOf (p .b) (p .a)) (wayOf (p .b) (p .a)) (parts (p .a) (i .a) .receiver) (ap (λ (q : Pair). wayOf (q .b) (q .a)) same) in
     all (all (all s r) (i .a)) (i .b)

@@ -17,6 +17,7 @@ use Rattle.way_rules.proofs.Until.{is-least, same-below, none-below}
 use Rattle.link_rules.specs.Within.{senderInRange, receiverInRange}
 use Rattle.ins2651_rules.specs.declared.Device.{Device}
 use Rattle.ins2651_rules.specs.Shape.{resetDevice, deviceLater}
+use Rattle.ins2651_rules.specs.Status.{statusByte}
 use Rattle.ins2651_rules.specs.Ranges.{inRange, settled}
 use Rattle.ins2651_ends.specs.OnALine as chip
 use Rattle.ins2651_ends.proofs.Calls.{unread-is, unread-taken}
@@ -28,7 +29,7 @@ use Rattle.joined_rules.specs.declared.Waited.{Waited}
 use Rattle.joined_rules.specs.Joining.{ticks, run, settledPair, joinedTicks}
 use Rattle.joined_rules.specs.Bench.{deviceAt}
 use Rattle.joined_rules.specs.TwoWays.{alongBoth, pairLater, stands}
-use Rattle.joined_rules.specs.Waiting.{sideOf, unread, ticksUntil, unspent, waited, wait, joinedUntil, waitedOn, endsTo, wayTo}
+use Rattle.joined_rules.specs.Waiting.{sideOf, unread, ticksUntil, unspent, waited, wait, joinedUntil, waitedOn, endsTo, wayTo, waitedAlong}
 use Rattle.joined_rules.proofs.Runs.{BothIn, settled-both, settled-ticks, joined-ticks-in}
 use Rattle.joined_rules.proofs.TwoWays.{two-ways}
 use Rattle.joined_rules.proofs.RunsRefused.{run-done}
@@ -80,7 +81,7 @@ wait-there p u (suc n) h = ap (λ (k : ℕ). record { refusal = 0; count = k; pa
 
 -- tallies do not matter to what is unread
 unread-so : (n : ℕ) (d : Device) → chip.unread (deviceLater n d) ≡ chip.unread d
-unfolding settled inRange senderInRange receiverInRange
+unfolding settled inRange senderInRange receiverInRange statusByte
 unread-so n d = unread-taken (deviceLater n d) ∙ ap on (go (inRange d)) ∙ sym (unread-taken d)
   where
     go : (b : Bool) → cond b (deviceLater n d) resetDevice .receiver .unread ≡ cond b d resetDevice .receiver .unread
@@ -125,6 +126,28 @@ wait-settled p u limit z h =
     ap₂ (λ (k : ℕ) (q : Pair). record { refusal = 0; count = k; pair = q }) same
     (sym (settled-ticks (ticksUntil p u limit) p (some-spent p u limit z h)) ∙ ap (λ (k : ℕ). joinedTicks k (settledPair p)) same)
 
+-- == by the ways ==
+
+module _ (p : Pair) (i : BothIn p) (u : Unit) where
+  by-way : (k : ℕ) → on (deviceAt (sideOf u) (joinedTicks k p) .receiver .unread) ≡ way.unread (wayTicks (endsTo u p) k (wayTo u p))
+  unfolding alongBoth
+  by-way k = go u
+    where
+      go : (v : Unit) → on (deviceAt (sideOf v) (joinedTicks k p) .receiver .unread) ≡ way.unread (wayTicks (endsTo v p) k (wayTo v p))
+      go unit.A = ap (λ (q : Pair). on (q .a .receiver .unread)) (two-ways k p i)
+      go unit.B = ap (λ (q : Pair). on (q .b .receiver .unread)) (two-ways k p i)
+
+  -- the way that comes to the unit is run until one is unread, and the other as long
+  waits-along : (limit : ℕ) → waitedOn p u limit ≡ waitedAlong p u limit
+  waits-along limit =
+      let same : joinedUntil p u limit ≡ untilUnread (endsTo u p) true limit (wayTo u p) =
+      same-below limit (λ k. on (deviceAt (sideOf u) (joinedTicks k p) .receiver .unread)) (λ k. way.unread (wayTicks (endsTo u p) k (wayTo u p))) by-way in
+      ap₂ (λ (k : ℕ) (q : Pair). record { refusal = 0; count = k; pair = q }) same (two-ways (joinedUntil p u limit) p i ∙ ap (λ (k : ℕ). alongBoth k p) same)
+
+-- .. as the code has them
+pub waits-on : (p : Pair) (u : Unit) (limit k : ℕ) (q : Pair) → k ≡ untilUnread (endsTo u p) true limit (wayTo u p) → q ≡ alongBoth k p → record { refusal = 0; count = k; pair = q } ≡ waitedAlong p u limit
+waits-on p u limit k q e h = ap₂ (λ (k : ℕ) (q : Pair). record { refusal = 0; count = k; pair = q }) e (h ∙ ap (λ (k : ℕ). alongBoth k p) e)
+
 -- by the code's test, u being whether one is there
 module _ (p : Pair) (unit : Unit) (limit : ℕ) (u : Bool) (there : u ≡ unread unit p) where
   pub none-spent : (u || eqb limit 0) ≡ true → waited p unit limit ≡ unspent p 0
@@ -134,21 +157,8 @@ module _ (p : Pair) (unit : Unit) (limit : ℕ) (u : Bool) (there : u ≡ unread
       go true e = wait-there p unit limit (sym there ∙ e)
       go false e = wait-none p unit limit (eqb-true limit 0 (rw e at h))
 
-  pub some-waited : (u || eqb limit 0) ≡ false → waited p unit limit ≡ waitedOn (settledPair p) unit limit
+  pub some-waited : (u || eqb limit 0) ≡ false → waited p unit limit ≡ waitedAlong (settledPair p) unit limit
   some-waited h =
       let n = neither u (eqb limit 0) h in
       let z = eqb-false limit 0 (n .1) in
-      wait-settled p unit limit (omega arith) (sym there ∙ n .0)
-
--- == by the ways ==
-
--- the way that comes to the unit is run until one is unread, and the other as long
-by-way : (p : Pair) (u : Unit) (k : ℕ) → on (deviceAt (sideOf u) (joinedTicks k p) .receiver .unread) ≡ way.unread (wayTicks (endsTo u p) k (wayTo u p))
-unfolding alongBoth
-by-way p unit.A k = ap (λ (q : Pair). on (q .a .receiver .unread)) (two-ways k p)
-by-way p unit.B k = ap (λ (q : Pair). on (q .b .receiver .unread)) (two-ways k p)
-
-pub waits-on : (p : Pair) (u : Unit) (limit k : ℕ) (q : Pair) → k ≡ untilUnread (endsTo u p) true limit (wayTo u p) → q ≡ alongBoth k p → record { refusal = 0; count = k; pair = q } ≡ waitedOn p u limit
-waits-on p u limit k q e h =
-    let same : k ≡ joinedUntil p u limit = e ∙ sym (same-below limit (λ k. on (deviceAt (sideOf u) (joinedTicks k p) .receiver .unread)) (λ k. way.unread (wayTicks (endsTo u p) k (wayTo u p))) (by-way p u)) in
-    ap₂ (λ (k : ℕ) (q : Pair). record { refusal = 0; count = k; pair = q }) same (h ∙ sym (two-ways k p) ∙ ap (λ (k : ℕ). joinedTicks k p) same)
+      wait-settled p unit limit (omega arith) (sym there ∙ n .0) ∙ waits-along (settledPair p) (settled-both p) unit limit

@@ -64,7 +64,7 @@ abbrev out-of-range : Pair → Pair
 out-of-range p =
     record {
       a = p .a;
-      b = record { registers = p .b .registers; pins = record { dsr = 2; dcd = 0; cts = 0 }; sender = p .b .sender; receiver = p .b .receiver; flags = p .b .flags };
+      b = record { registers = p .b .registers; pins = record { dsr = 2; dcd = 0; cts = 0 }; sender = p .b .sender; receiver = p .b .receiver; flags = p .b .flags; status = p .b .status };
     }
 
 abbrev pub table : List Row

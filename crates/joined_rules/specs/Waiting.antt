@@ -8,7 +8,7 @@ use Rattle.line_rules.specs.declared.Format.{Format}
 use Rattle.line_rules.specs.Sending.{on}
 use Rattle.way_rules.specs.declared.Ends.{Ends}
 use Rattle.way_rules.specs.declared.Way.{Way}
-use Rattle.way_rules.specs.Until.{leastBelow}
+use Rattle.way_rules.specs.Until.{leastBelow, untilUnread}
 use Rattle.ins2651_ends.specs.OnALine as chip
 use Rattle.delivery.specs.OneWay.{Logged}
 use Rattle.delivery.specs.Promise.{L, D, Awaited}
@@ -19,7 +19,7 @@ use Rattle.joined_rules.specs.declared.Unit.the-variants as unit
 use Rattle.joined_rules.specs.declared.Waited.{Waited}
 use Rattle.joined_rules.specs.Joining.{ticks, joinedTicks}
 use Rattle.joined_rules.specs.Bench.{deviceAt}
-use Rattle.joined_rules.specs.TwoWays.{endsOf, wayOf}
+use Rattle.joined_rules.specs.TwoWays.{endsOf, wayOf, alongBoth}
 
 -- the side of the line at which a unit stands
 abbrev pub sideOf : Unit → Side
@@ -63,6 +63,12 @@ endsTo u p = endsOf (deviceAt (senderTo u) p) (deviceAt (sideOf u) p)
 
 abbrev pub wayTo : Unit → Pair → Way
 wayTo u p = wayOf (deviceAt (senderTo u) p) (deviceAt (sideOf u) p)
+
+-- by the two ways: that one is run until a character is unread, and the other as long
+abbrev pub waitedAlong : Pair → Unit → ℕ → Waited
+waitedAlong p u limit =
+    let k : ℕ = untilUnread (endsTo u p) true limit (wayTo u p) in
+    record { refusal = 0; count = k; pair = alongBoth k p }
 
 -- == the promise ==
 

@@ -118,11 +118,12 @@ fn reset(s: Session) -> Session {
     called(s, ins2651::reset(), 0)
 }
 
+// The five outputs, and the status byte that the device keeps (P7).
 fn outputs(s: Session) -> Session {
     let d = s.device;
     let o = ins2651::outputs(d);
     let first = mixed(mixed(mixed(called(s, d, 0), o.txrdy), o.rxrdy), o.txemt);
-    mixed(mixed(first, o.dtr), o.rts)
+    mixed(mixed(mixed(first, o.dtr), o.rts), d.status)
 }
 
 // At most `most` echoed ticks, at least one.
@@ -275,8 +276,8 @@ fn begun(seed: u32) -> Session {
     }
 }
 
-// Both stamps and both tallies.
-fn clocks(d: Device) {
+// Both stamps, both tallies and the status byte.
+fn kept(d: Device) {
     let held = ins2651::stamp(d);
     let sent = ins2651::start(d);
     let transmitted = ins2651::transmit_tally(d);
@@ -286,6 +287,7 @@ fn clocks(d: Device) {
     field(sent.0);
     field(transmitted.0);
     field(received.0);
+    field(d.status as u32);
     text(b"\n");
 }
 
@@ -298,7 +300,7 @@ fn drawn_session(number: u32) {
     field(s.refused);
     field(s.sum);
     text(b"\n");
-    clocks(s.device);
+    kept(s.device);
 }
 
 fn sessions(n: u32) {

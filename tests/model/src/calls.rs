@@ -3,13 +3,14 @@
 
 use crate::chip::{Chip, View};
 use crate::driver::Entry;
+use crate::ranges::{fields_in_range, wrong_bits};
 use crate::shorten::{smaller_bytes, smaller_levels};
 use std::fmt;
 
 /// The bytes of a device in C's layout (docs/RANGES.md).
 pub const DEVICE_BYTES: usize = 64;
 /// The bytes between fields, which the driver shows as 00.
-pub const PADDING: [usize; 7] = [23, 45, 46, 47, 61, 62, 63];
+pub const PADDING: [usize; 6] = [23, 45, 46, 47, 62, 63];
 
 #[derive(Clone, Copy, Debug, PartialEq, Eq)]
 pub enum Call {
@@ -151,16 +152,24 @@ pub enum Garbage {
     Random,
     /// A device just reset but for one byte, and its tallies and stamps, which are any.
     OneByte,
+    /// Any device in range but for its status byte (P7 of the change requests).
+    Status,
 }
 
 impl Garbage {
-    pub const ALL: [Garbage; 3] = [Garbage::AllOnes, Garbage::Random, Garbage::OneByte];
+    pub const ALL: [Garbage; 4] = [
+        Garbage::AllOnes,
+        Garbage::Random,
+        Garbage::OneByte,
+        Garbage::Status,
+    ];
 
     pub fn name(&self) -> &'static str {
         match self {
             Garbage::AllOnes => "all ones",
             Garbage::Random => "random bytes",
             Garbage::OneByte => "one wrong byte",
+            Garbage::Status => "a wrong status byte",
         }
     }
 }
@@ -217,6 +226,15 @@ impl Lent {
         }
     }
 
+    /// The bits that are wrong in the status byte of a device all of whose other fields are
+    /// in range; none where one is not, or the byte is right.
+    pub fn wrong_status(&self) -> u8 {
+        match self {
+            Lent::OutOfRange(bytes) if fields_in_range(bytes) => wrong_bits(bytes),
+            _ => 0,
+        }
+    }
+
     /// The device with its tallies at 0; one out of range as it is.
     pub fn untallied(&self) -> Lent {
         match self {
@@ -242,6 +260,14 @@ impl Lent {
         match self {
             Lent::InRange(chip) => chip.view(),
             Lent::OutOfRange(..) => Chip::just_reset().view(),
+        }
+    }
+
+    /// The status, which is that of one just reset where the device is out of range.
+    pub fn status(&self) -> u8 {
+        match self {
+            Lent::InRange(chip) => chip.peek(),
+            Lent::OutOfRange(_) => Chip::just_reset().peek(),
         }
     }
 

@@ -4,7 +4,7 @@
 //! The sender holds the levels that are left of the frame under way, and the
 //! receiver the samples of the character under way, so both lean on the frame
 //! and the reading of the crate's root. The sections named are those of
-//! document 01; P1 and P4 are those requests of document 02, the change requests. `bytes`
+//! document 01; P1, P4 and P7 are those requests of document 02, the change requests. `bytes`
 //! has the chip as the bytes that a host lends, `view` what an onlooker sees of it.
 
 mod bytes;

@@ -1,11 +1,50 @@
 //! The ranges of a device's fields (docs/RANGES.md), by the bytes of the struct
 //! that a host lends, a number of two bytes with its low byte first. Any number is in range
-//! in the tallies and stamps.
+//! in the tallies and stamps. The status byte is held to what the other fields mean (P7 of
+//! the change requests).
 
 use crate::calls::DEVICE_BYTES;
 use crate::Format;
 
+/// The place of the status byte.
+pub const STATUS: usize = 61;
+
 pub fn in_range(bytes: &[u8; DEVICE_BYTES]) -> bool {
+    fields_in_range(bytes) && wrong_bits(bytes) == 0
+}
+
+/// The bits of the status byte that are not what the other fields mean.
+pub fn wrong_bits(bytes: &[u8; DEVICE_BYTES]) -> u8 {
+    bytes[STATUS] ^ meant_status(bytes)
+}
+
+/// What the other fields mean as a status byte ("Registers"), by their own numbers alone.
+pub fn meant_status(bytes: &[u8; DEVICE_BYTES]) -> u8 {
+    let is = |place: usize| bytes[place] == 1;
+    let low = |place: usize| bytes[place] == 0;
+    let (transmit_enabled, empty) = (bytes[3] % 2 == 1, low(21));
+    let bits = [
+        (128, low(9)),
+        (64, low(10)),
+        (32, is(56)),
+        (16, is(57)),
+        (8, is(58)),
+        (4, is(59) || is(60)),
+        (2, is(44)),
+        (1, transmit_enabled && empty),
+    ];
+    let set = bits.iter().filter(|(_, holds)| *holds);
+    set.map(|(bit, _)| bit).sum()
+}
+
+/// The device with the status byte that its other fields mean.
+pub fn restated(mut bytes: [u8; DEVICE_BYTES]) -> [u8; DEVICE_BYTES] {
+    bytes[STATUS] = meant_status(&bytes);
+    bytes
+}
+
+/// The ranges of all fields but the status byte.
+pub fn fields_in_range(bytes: &[u8; DEVICE_BYTES]) -> bool {
     registers_in_range(&bytes[0..9])
         && levels_in_range(&bytes[9..12])
         && sender_in_range(&bytes[12..23])

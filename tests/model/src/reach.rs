@@ -1,10 +1,11 @@
 //! What the random runs reached, counted by name on the model's chips, and for
 //! demand 3 by the sessions' text and answers (`delivery`). A run in which one of
-//! its names stays at 0 has not tested what it is for; of a wait and of a stamp each name
-//! has to be reached often: `waits` has those of a session's lines, `stamps` follows a
-//! chip's tallies.
+//! its names stays at 0 has not tested what it is for; of a wait, of a stamp and of a status
+//! byte each name has to be reached often: `waits` has those of a session's lines, `stamps`
+//! follows a chip's tallies, `status` the byte that a lent device keeps.
 
 mod stamps;
+pub mod status;
 mod waits;
 
 use crate::calls::{Call, Garbage, Lent, Line, DEVICE_BYTES};
@@ -109,7 +110,8 @@ pub struct Reach {
     /// The values of mode 1 that a frame was sent with, and a character received.
     sent: [bool; 256],
     received: [bool; 256],
-    /// What has to be reached often: of stamps, and of waits, which only sessions have.
+    /// What has to be reached often: of stamps, of waits, which only sessions have, and of
+    /// status bytes, which only lent devices have.
     often: Counts,
 }
 
@@ -135,6 +137,7 @@ impl Reach {
         let mut reach = Reach::of(names);
         stamps::name(&mut reach.often);
         stamps::name_of_hosts(&mut reach.often);
+        status::name_of_calls(&mut reach.often);
         reach
     }
 
@@ -191,7 +194,10 @@ impl Reach {
     }
 
     pub fn conclude(&self) -> ExitCode {
-        let missing = format!("not reached, or of a wait or a stamp {}", seldom());
+        let missing = format!(
+            "not reached, or of a wait, a stamp or a status byte {}",
+            seldom()
+        );
         conclude(self.report(), &missing)
     }
 
@@ -345,12 +351,21 @@ impl Reach {
         let mut garbage = None;
         let mut watch = Watch::default();
         let mut refused = None;
-        for line in lines {
+        // The device where it was set just before.
+        let mut set = None;
+        for (place, line) in lines.iter().enumerate() {
             if let Line::Call(call) = line {
                 let before = lent.view();
                 let own = garbage.map(|_| lent.bytes());
                 let (refusal, answer) = lent.call(call);
                 self.count(call.name());
+                if lines.get(place + 1) == Some(&Line::Bytes) {
+                    let statuses = [before.status, lent.status()];
+                    status::count_moves(&mut self.often, call, statuses);
+                    if let Some(set) = &set {
+                        status::called_first(&mut self.often, call, refusal != 0, set);
+                    }
+                }
                 if *call == Call::InRange && answer == [0] {
                     self.count("out of range seen");
                 }
@@ -373,9 +388,9 @@ impl Reach {
                     refused = None;
                 }
             }
-            garbage = match line {
-                Line::Device(garbage, _) => *garbage,
-                _ => None,
+            (garbage, set) = match line {
+                Line::Device(garbage, _) => (*garbage, Some(lent.clone())),
+                _ => (None, None),
             };
         }
     }

@@ -9,6 +9,7 @@ use model::board::{Board, Call};
 use model::chip::{set_number, set_up, RECEIVE_TALLY, TRANSMIT_TALLY};
 use model::driver::{self, difference, text};
 use model::generate::boards::{run, RUNS};
+use model::ranges::restated;
 
 fn output(make: Make, lines: &[Line]) -> String {
     driver::output(Bench::new(make), lines)
@@ -156,6 +157,7 @@ fn a_channel_that_a_refused_call_would_have_changed_is_counted() {
     let mut bytes = set_up(77, 0, 5).bytes();
     // A character is unread; then the mode pointer is none.
     bytes[44] = 1;
+    let mut bytes = restated(bytes);
     let whole = Line::Device(0, bytes);
     bytes[7] = 2;
     let spoilt = Line::Device(0, bytes);

@@ -148,6 +148,6 @@ fn the_lines_of_the_driver() {
     assert_eq!((&answer[44..50], &answer[128..130]), ("ab00ab", "4d"));
     assert_eq!(
         (&answer[88..98], &answer[120..128]),
-        ("ab000000ab", "ab000000")
+        ("ab000000ab", "abab0000")
     );
 }

@@ -11,6 +11,7 @@ use model::pair::hearing::in_step;
 use model::pair::lines::{Bench, Line, Make};
 use model::pair::reach::Reach;
 use model::pair::{Call, Pair};
+use model::ranges::restated;
 use model::session::Unit;
 use model::Format;
 
@@ -299,7 +300,7 @@ fn in_93_ticks(unread: u8) -> [[u8; DEVICE_BYTES]; 2] {
     let (a, mut b) = (end(60, 160), end(1, 60));
     b[12..20].fill(0);
     b[44] = unread;
-    [a, b]
+    [a, restated(b)]
 }
 
 #[test]
@@ -355,7 +356,7 @@ fn when_the_frame_begins_that_is_waited_for_is_counted() {
     let waiting = |guard: u8| {
         let mut bytes = set_up(78, 0, 5).bytes();
         [bytes[20], bytes[21], bytes[22]] = [CHARACTER, 1, guard];
-        bytes
+        restated(bytes)
     };
     for (guard, counts) in [
         (0, ["1 0", "0 0", "0 0", "0 0"]),

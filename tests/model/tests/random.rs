@@ -423,8 +423,8 @@ fn a_peek_that_reads_is_found() {
         }
     };
     let found = WrongDriver { after, ..RIGHT }.found();
-    // Reset, a change of a pin, and two looks.
-    assert_eq!(found.len(), 4, "{}", text(&found));
+    // A device with a change-mark, and two looks.
+    assert_eq!(found.len(), 3, "{}", text(&found));
 }
 
 #[test]
@@ -572,13 +572,21 @@ fn what_receive_off_alone_clears_is_counted() {
 
 #[test]
 fn no_flag_is_seen_while_receive_is_off() {
-    // P1 clears them, and no character comes while receive is off.
+    // P1 clears them, and no character comes while receive is off; only a device that is
+    // lent so may have one.
     for lines in (0..RUNS).map(run) {
         let mut lent = Lent::InRange(Chip::just_reset());
+        let mut lent_so = false;
         for line in &lines {
             lent.answer(line);
             let view = lent.view();
-            assert!(view.command & 4 != 0 || view.status & 56 == 0);
+            let seen = view.command & 4 == 0 && view.status & 56 != 0;
+            match line {
+                Line::Device(..) => lent_so = seen,
+                Line::Call(Call::Reset) => lent_so = false,
+                _ => {}
+            }
+            assert!(lent_so || !seen);
         }
     }
 }

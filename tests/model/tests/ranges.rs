@@ -1,20 +1,21 @@
 //! The ranges of a lent device's bytes (docs/RANGES.md), at some of their edges, and
-//! the chip that they are.
+//! the chip that they are. The status byte is the right one, but where it is tested
+//! (`status.rs`).
 
 use model::calls::{without_padding, Call, DEVICE_BYTES, PADDING};
 use model::chip::{Chip, RECEIVE_TALLY, STAMP, START, TRANSMIT_TALLY};
 use model::generate::ranges::{device, draws};
-use model::ranges::in_range;
+use model::ranges::{in_range, restated};
 
 type Bytes = [u8; DEVICE_BYTES];
 
-/// A device of zeros, its pins low, with some bytes set.
+/// A device of zeros, its pins low, with some bytes set and its status byte by them.
 fn with(set: &[(usize, &[u8])]) -> Bytes {
     let mut bytes = [0; DEVICE_BYTES];
     for &(place, numbers) in set {
         bytes[place..place + numbers.len()].copy_from_slice(numbers);
     }
-    bytes
+    restated(bytes)
 }
 
 /// A frame of 8 bits, even, 2 stop bits and a factor of 64: L is 768.

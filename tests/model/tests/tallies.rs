@@ -1,6 +1,7 @@
 //! The tallies of both clocks and what they stamp (P4 of the change requests): the rules
 //! on the model's chip, and wrong programs, each found within the fixed seeds.
 
+mod faults;
 mod wrong_tallies;
 
 use model::board::lines::Bench as Boards;
@@ -236,8 +237,8 @@ fn a_device_out_of_range_has_none() {
 // Wrong programs.
 
 /// The shortest run of calls that shows it, from the first that does.
-fn found_by_calls(fault: wrong_tallies::Fault) -> Option<Vec<Line>> {
-    let wrong = |lines: &[Line]| difference(lines, &wrong_tallies::output(fault, lines));
+fn found_by_calls(fault: faults::Fault) -> Option<Vec<Line>> {
+    let wrong = |lines: &[Line]| difference(lines, &faults::output(fault, lines));
     let mut runs = (0..calls::RUNS).map(calls::run);
     let first = runs.find(|lines| wrong(lines).is_some())?;
     let until = wrong(&first).map_or(0, |difference| difference.line);
@@ -247,7 +248,7 @@ fn found_by_calls(fault: wrong_tallies::Fault) -> Option<Vec<Line>> {
 #[test]
 fn right_tallies_are_found_right() {
     for lines in (0..calls::RUNS).step_by(17).map(calls::run) {
-        let output = wrong_tallies::output(|_, _, _, _| {}, &lines);
+        let output = faults::output(|_, _, _, _| {}, &lines);
         assert_eq!(difference(&lines, &output), None);
     }
     for input in (0..SESSIONS)
@@ -255,7 +256,7 @@ fn right_tallies_are_found_right() {
         .map(|index| session(Kind::Realistic, index))
     {
         assert_eq!(
-            wrong_tallies::wrong_answer(|_, _, _, _| {}, &input),
+            faults::wrong_answer(|_, _, _, _| {}, &input),
             answer(&input)
         );
     }
@@ -273,8 +274,7 @@ fn each_wrong_tally_is_found_by_calls() {
 #[test]
 fn each_wrong_stamp_is_found_by_sessions() {
     for wrong in wrong_tallies::ALL.iter().filter(|wrong| wrong.in_sessions) {
-        let differs =
-            |input: &[u8]| wrong_tallies::wrong_answer(wrong.fault, input) != answer(input);
+        let differs = |input: &[u8]| faults::wrong_answer(wrong.fault, input) != answer(input);
         let mut sessions = (0..SESSIONS).map(|index| session(Kind::Realistic, index));
         let first = sessions.find(|input| differs(input)).expect(wrong.name);
         let shortest = shorten::session(&first, differs);
@@ -300,7 +300,7 @@ fn wrong_stamps_are_judged_by_their_answers_alone() {
     for wrong in wrong_tallies::ALL.iter().filter(|wrong| wrong.in_sessions) {
         let seen = |kind: Kind, index: u32| {
             let input = session(kind, index);
-            let answer = wrong_tallies::wrong_answer(wrong.fault, &input);
+            let answer = faults::wrong_answer(wrong.fault, &input);
             judge(&input, &answer, &senders(kind, index)).is_err()
         };
         let judged = !NOT_JUDGED.contains(&wrong.name);

@@ -58,7 +58,7 @@ typedef struct pair {
 
 static int same(const ins2651 *a, const ins2651 *b) {
     const unsigned char *x = (const unsigned char *)a, *y = (const unsigned char *)b;
-    return !memcmp(x, y, 23) && !memcmp(x + 24, y + 24, 21) && !memcmp(x + 48, y + 48, 13); /* all but the padding */
+    return !memcmp(x, y, 23) && !memcmp(x + 24, y + 24, 21) && !memcmp(x + 48, y + 48, 14); /* all but the padding */
 }
 
 static void print_device(const char *title, const ins2651 *device) {

@@ -55,16 +55,28 @@ INLINE int receiver_in_range(const ins2651_receiver *r) {
     return memcmp((const char *)r + FROM, none, sizeof none) == 0;
 }
 
+/* The status byte that the other fields mean. */
+INLINE uint8_t meant_status(const ins2651 *d) {
+    int pins = d->pins.dsr << 7 | d->pins.dcd << 6;
+    int errors = d->flags.framing << 5 | d->flags.overrun << 4 | d->flags.parity << 3;
+    int may_write = d->registers.command & INS2651_COMMAND_TRANSMIT & ~d->sender.full;
+    return (uint8_t)((pins ^ 192) | errors | (d->flags.empty | d->flags.change) << 2 | d->receiver.unread << 1 | may_write);
+}
+
 /* Any number is in range in the tallies and stamps. */
 INLINE int in_range(const ins2651 *d) {
     const ins2651_input_pins *p = &d->pins;
     uint32_t flags; /* four of them, looked at as one word */
     memcpy(&flags, &d->flags, sizeof flags);
     int levels = ((p->dsr | p->dcd | p->cts | d->flags.change | d->receiver.unread) <= 1) & ((flags & 0xfefefefe) == 0);
-    return levels & registers_in_range(&d->registers) & sender_in_range(&d->sender) & receiver_in_range(&d->receiver);
+    return levels & registers_in_range(&d->registers) & sender_in_range(&d->sender) & receiver_in_range(&d->receiver) &
+           (d->status == meant_status(d));
 }
 
 INLINE void reset(ins2651 *d) { *d = (ins2651)INS2651_RESET; }
+
+/* Behind a change of a field that the status byte follows. */
+INLINE void restate(ins2651 *d) { d->status = meant_status(d); }
 
 /* A device out of range is taken as one just reset. */
 INLINE void settle(ins2651 *d) { if (!in_range(d)) reset(d); }
@@ -99,7 +111,10 @@ INLINE unsigned frame_tick(ins2651 *d) {
     unsigned level = level_at(frame);
     if (++frame->place == frame_length(&frame->format)) {
         *frame = no_frame;
-        if (!d->sender.full && (d->registers.command & INS2651_COMMAND_TRANSMIT)) d->flags.empty = 1;
+        if (!d->sender.full && (d->registers.command & INS2651_COMMAND_TRANSMIT)) {
+            d->flags.empty = 1;
+            d->status |= INS2651_STATUS_TXEMT;
+        }
     }
     return level;
 }
@@ -120,6 +135,7 @@ INLINE unsigned transmit_tick(ins2651 *d) {
     } else if (ready && s->full) {
         s->frame = (ins2651_frame){s->holding, format_of(r->mode1, internal), 1}; /* this tick was its first */
         s->holding = s->full = 0;
+        d->status |= INS2651_STATUS_TXRDY; /* transmit is enabled */
         s->start = s->tally;
         return 0;
     }
@@ -149,6 +165,7 @@ INLINE void arrive(ins2651 *d, uint8_t stop) {
     r->unread = 1;
     r->stamp = r->tally;
     rest(r, stop ? SEARCHING : WAITING);
+    restate(d);
 }
 
 INLINE void look(ins2651 *d, uint8_t level) {
@@ -185,18 +202,6 @@ INLINE void receive_tick(ins2651 *d, uint8_t level) {
 
 /* == "Registers" == */
 
-/* Status bits 2 to 0. */
-INLINE int ready_bits(const ins2651 *d) {
-    int may_write = d->registers.command & INS2651_COMMAND_TRANSMIT & ~d->sender.full;
-    return (d->flags.empty | d->flags.change) << 2 | d->receiver.unread << 1 | may_write;
-}
-
-INLINE uint8_t status(const ins2651 *d) {
-    int pins = d->pins.dsr << 7 | d->pins.dcd << 6;
-    int errors = d->flags.framing << 5 | d->flags.overrun << 4 | d->flags.parity << 3;
-    return (uint8_t)((pins ^ 192) | errors | ready_bits(d));
-}
-
 INLINE void write_syn(ins2651_registers *r, uint8_t value) {
     if (r->syns == 0) r->syn1 = value;
     else if (r->syns == 1) r->syn2 = value;
@@ -230,6 +235,7 @@ INLINE void write_command(ins2651 *d, uint8_t value) {
         rest(&d->receiver, WAITING);
         d->receiver.unread = 0;
     }
+    restate(d);
 }
 
 /* == the calls == */
@@ -244,10 +250,11 @@ uint16_t ins2651_read(ins2651 *d, uint8_t address) {
     settle(d);
     ins2651_registers *r = &d->registers;
     switch (address) {
-    case INS2651_DATA: d->receiver.unread = 0; return d->receiver.holding;
+    case INS2651_DATA: d->receiver.unread = 0; d->status &= (uint8_t)~INS2651_STATUS_RXRDY; return d->receiver.holding;
     case INS2651_STATUS: {
-        uint8_t before = status(d);
+        uint8_t before = d->status;
         d->flags.change = 0;
+        restate(d);
         return before;
     }
     case INS2651_MODE: r->modes ^= 1; return r->modes ? r->mode1 : r->mode2;
@@ -261,7 +268,7 @@ uint16_t ins2651_write(ins2651 *d, uint8_t address, uint8_t value) {
     if (address == INS2651_COMMAND && value > 63) return INS2651_NOT_NORMAL_OPERATION;
     settle(d);
     switch (address) {
-    case INS2651_DATA: d->sender.holding = value; d->sender.full = 1; d->flags.empty = 0; break;
+    case INS2651_DATA: d->sender.holding = value; d->sender.full = 1; d->flags.empty = 0; restate(d); break;
     case INS2651_STATUS: write_syn(&d->registers, value); break;
     default: write_command(d, value);
     }
@@ -273,6 +280,7 @@ uint16_t ins2651_pins(ins2651 *d, uint8_t dsr, uint8_t dcd, uint8_t cts) {
     settle(d);
     d->flags.change |= (dsr ^ d->pins.dsr) | (dcd ^ d->pins.dcd);
     d->pins = (ins2651_input_pins){dsr, dcd, cts};
+    restate(d);
     return INS2651_DONE;
 }
 
@@ -298,12 +306,12 @@ uint16_t ins2651_tick(ins2651 *d, uint8_t level) {
 /* The outputs are active low; those of a device just reset are high. */
 uint16_t ins2651_outputs(ins2651 *d) {
     int command = d->registers.command;
-    int active = ready_bits(d) | (command & INS2651_COMMAND_DTR) << 2 | (command & INS2651_COMMAND_RTS) >> 1;
+    int active = (d->status & 7) | (command & INS2651_COMMAND_DTR) << 2 | (command & INS2651_COMMAND_RTS) >> 1;
     return in_range(d) ? (uint16_t)(active ^ 31) : 31;
 }
 
 /* The status of a device just reset is 0. */
-uint16_t ins2651_peek(ins2651 *d) { return in_range(d) ? status(d) : 0; }
+uint16_t ins2651_peek(ins2651 *d) { return in_range(d) ? d->status : 0; }
 uint16_t ins2651_in_range(ins2651 *d) { return (uint16_t)in_range(d); }
 
 /* A device just reset has stamps and tallies of 0. */

@@ -116,6 +116,8 @@ pub struct Device {
     sender: Sender,
     receiver: Receiver,
     flags: Flags,
+    /// What the fields above mean, kept by every call (P7 of the change requests).
+    status: u8,
 }
 
 pub const DEVICE_BYTES: usize = 64;
@@ -301,6 +303,7 @@ impl Device {
             empty: 0,
             change: 0,
         },
+        status: 0,
     };
 
     /// A device of any bytes.
@@ -354,6 +357,7 @@ impl Device {
             & self.registers.in_range()
             & self.sender.in_range()
             & self.receiver.in_range()
+            & (self.status == self.meant_status())
     }
 
     /// A device out of range is taken as one just reset.
@@ -364,30 +368,33 @@ impl Device {
         }
     }
 
-    /// Status bits 2 to 0.
-    #[inline(always)]
-    fn ready_bits(&self) -> u8 {
-        let may_write = self.registers.command & TRANSMIT & !self.sender.full;
-        (self.flags.empty | self.flags.change) << 2 | self.receiver.unread << 1 | may_write
-    }
-
     /// One that is out of range holds none.
     #[inline(always)]
     pub fn holds_unread(&self) -> bool {
-        self.receiver.unread != 0 && self.in_range()
+        self.status & 2 != 0 && self.in_range()
     }
 
     /// Status bits 1 and 0, without a look at the range.
     #[inline(always)]
     pub fn interrupts(&self) -> u8 {
-        self.ready_bits() & 3
+        self.status & 3
     }
 
-    fn status(&self) -> u8 {
+    /// What the other fields mean.
+    #[inline(always)]
+    fn meant_status(&self) -> u8 {
         let pins = self.pins.dsr << 7 | self.pins.dcd << 6;
         let flags = &self.flags;
         let errors = flags.framing << 5 | flags.overrun << 4 | flags.parity << 3;
-        (pins ^ 192) | errors | self.ready_bits()
+        let may_write = self.registers.command & TRANSMIT & !self.sender.full;
+        let ready = (flags.empty | flags.change) << 2 | self.receiver.unread << 1 | may_write;
+        (pins ^ 192) | errors | ready
+    }
+
+    /// Behind a change of a field that it follows.
+    #[inline(always)]
+    fn restate(&mut self) {
+        self.status = self.meant_status();
     }
 
     // The calls. An address is at most 3.
@@ -399,11 +406,13 @@ impl Device {
         match address {
             0 => {
                 self.receiver.unread = 0;
+                self.status &= !2;
                 self.receiver.holding
             }
             1 => {
-                let before = self.status();
+                let before = self.status;
                 self.flags.change = 0;
+                self.restate();
                 before
             }
             2 => {
@@ -435,6 +444,7 @@ impl Device {
             0 => {
                 (self.sender.holding, self.sender.full) = (value, 1);
                 self.flags.empty = 0;
+                self.restate();
             }
             1 => self.write_syn(value),
             _ => self.write_command(value),
@@ -488,6 +498,7 @@ impl Device {
             self.receiver.rest(WAITING);
             self.receiver.unread = 0;
         }
+        self.restate();
     }
 
     /// The refusal.
@@ -499,6 +510,7 @@ impl Device {
         self.settle();
         self.flags.change |= (dsr ^ self.pins.dsr) | (dcd ^ self.pins.dcd);
         self.pins = Pins { dsr, dcd, cts };
+        self.restate();
         0
     }
 
@@ -547,6 +559,8 @@ impl Device {
             };
             (s.holding, s.full) = (0, 0);
             s.start = s.tally;
+            // Transmit is enabled.
+            self.status |= 1;
             return 0;
         }
         1
@@ -560,6 +574,7 @@ impl Device {
             *frame = Frame::default();
             if self.sender.full == 0 && self.registers.command & TRANSMIT != 0 {
                 self.flags.empty = 1;
+                self.status |= 4;
             }
         }
         level
@@ -616,13 +631,14 @@ impl Device {
         (r.holding, r.unread) = (r.state.value, 1);
         r.stamp = r.tally;
         r.rest(if stop == 1 { SEARCHING } else { WAITING });
+        self.restate();
     }
 
     /// TxRDY, RxRDY, TxEMT, DTR and RTS from bit 0 up, active low; those of a device just reset are high.
     #[inline(always)]
     pub fn outputs(&self) -> u8 {
         let command = self.registers.command;
-        let active = self.ready_bits() | (command & DTR) << 2 | (command & RTS) >> 1;
+        let active = self.status & 7 | (command & DTR) << 2 | (command & RTS) >> 1;
         if self.in_range() {
             active ^ 31
         } else {

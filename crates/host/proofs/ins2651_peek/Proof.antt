@@ -7,7 +7,6 @@ use contract.Running.{givenOf, tables, tablesOf}
 use denote.Builtin.{u16}
 use denote.Triple.Spec.{tripleOf}
 use denote.Triple.Table.{entered, cited}
-use Rattle.ins2651_rules.specs.Status.{statusByte}
 use Rattle.host.proofs.Calls.{Taking}
 use Rattle.host.proofs.Again.{Lending}
 use Rattle.host.proofs.Looks.{meets-looks}
@@ -28,6 +27,6 @@ unfolding code.routine tablesOf
 ins2651-peek-spec 𝓤 H 𝓜 𝓖 𝓡 =
     entered 𝓤 H (tripleOf 𝓤 H (𝓖 .A) f.signature (f.spec 𝓤 H (𝓖 .A) (𝓜 .mem) (𝓡 .run)))
     (tables 𝓤 H 𝓜 𝓡 code.env .C) (tables 𝓤 H 𝓜 𝓡 code.env .Λ) #ins2651-peek code.function (code.unfolded 𝓤 H 𝓜 𝓡)
-    (meets-looks 𝓤 H (𝓖 .A) (givenOf 𝓤 H 𝓜 𝓖) w16 0 tt (omega arith) settles (shows statusByte) peeks status-or-reset (tablesOf 𝓤 H 𝓜 (tables 𝓤 H 𝓜 𝓡 code.env)) #make-sound #peek
+    (meets-looks 𝓤 H (𝓖 .A) (givenOf 𝓤 H 𝓜 𝓖) w16 0 tt (omega arith) settles (shows (λ d. d .status)) peeks status-or-reset (tablesOf 𝓤 H 𝓜 (tables 𝓤 H 𝓜 𝓡 code.env)) #make-sound #peek
     (cited 𝓤 H (Lending 𝓤 H (𝓖 .A) 0 settles) 𝓜 𝓡 code.env #make-sound make-sound-def.routine code.calls-host·make-sound (make-sound-thm.met 𝓤 H 𝓜 𝓖 𝓡))
-    (cited 𝓤 H (Taking 𝓤 H (𝓖 .A) u16 0 (shows statusByte)) 𝓜 𝓡 code.env #peek peek-def.routine code.calls-host·peek (peek-thm.met 𝓤 H 𝓜 𝓖 𝓡)))
+    (cited 𝓤 H (Taking 𝓤 H (𝓖 .A) u16 0 (shows (λ d. d .status))) 𝓜 𝓡 code.env #peek peek-def.routine code.calls-host·peek (peek-thm.met 𝓤 H 𝓜 𝓖 𝓡)))

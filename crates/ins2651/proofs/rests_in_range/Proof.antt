@@ -7,7 +7,7 @@ use Rattle.ins2651.proofs.rests_in_range.Tie as tie
 
 returns : tie.Need-returns
 unfolding restsInRange
-returns c = rw (c .flags-in-range .ensures, c .before .receiver-rests-in-range .ensures, c .before .before .sender-rests-in-range .ensures, c .before .before .before .pins-in-range .ensures, c .before .before .before .before .registers-in-range .ensures)
+returns c = rw (c .status-in-range .ensures, c .before .flags-in-range .ensures, c .before .before .receiver-rests-in-range .ensures, c .before .before .before .sender-rests-in-range .ensures, c .before .before .before .before .pins-in-range .ensures, c .before .before .before .before .before .registers-in-range .ensures)
 
 pub rests-in-range-spec : {M : Type 1} → statement M
-rests-in-range-spec = tie.close (tie.spec (λ c κs. search needs) (λ c κs. search needs) (λ c κs. search needs) (λ c κs. search needs) (λ c κs. search needs) returns)
+rests-in-range-spec = tie.close (tie.spec (λ c κs. search needs) (λ c κs. search needs) (λ c κs. search needs) (λ c κs. search needs) (λ c κs. search needs) (λ c κs. search needs) returns)

@@ -1,9 +1,8 @@
--- `joined::ticks_on` meets its contract. A run of each way is a run of the pair.
+-- `joined::ticks_on` meets its contract. A run of each way.
 -- Assumes nothing.
-use mathlib.Core.Path.{sym, ap₂, _∙_}
+use mathlib.Core.Path.{ap₂, _∙_}
 use Rattle.way_rules.proofs.Until.{ran-all}
 use Rattle.joined_rules.specs.TwoWays.{withWays, alongBoth}
-use Rattle.joined_rules.proofs.TwoWays.{two-ways}
 use borrow.Author.Needs.{needs}
 use Rattle.joined.proofs.ticks_on.Statement.{statement}
 use Rattle.joined.proofs.ticks_on.Tie as tie
@@ -14,7 +13,6 @@ returns c =
     let a = c .before .before .before .args in
     c .with-ways .ensures
     ∙ ap₂ (withWays (a .p)) (ran-all _ (a .n) _ _ (c .before .before .one-way .ensures)) (ran-all _ (a .n) _ _ (c .before .one-way2 .ensures))
-    ∙ sym (two-ways (a .n) (a .p))
 
 pub ticks-on-spec : {M : Type 1} → statement M
 ticks-on-spec = tie.close (tie.spec (λ c κs. search needs) (λ c κs. search needs) (λ c κs. search needs) returns)

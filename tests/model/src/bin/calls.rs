@@ -1,6 +1,6 @@
-//! Prints what the chip answers to pseudo-random runs of calls, and the stamps and
-//! tallies that each leaves, as text with tabs: what the program `run_calls` has to
-//! write.
+//! Prints what the chip answers to pseudo-random runs of calls, and the stamps, the tallies
+//! and the status byte that each leaves, as text with tabs: what the program `run_calls` has
+//! to write.
 
 use model::chip::Chip;
 use model::Generator;
@@ -83,6 +83,8 @@ impl Session {
         for level in self.chip.outputs() {
             self.mix(level);
         }
+        // With them goes the status byte that the device keeps (P7).
+        self.mix(self.chip.peek());
     }
 
     /// One step: a few calls, most often ticks with the line looped back.
@@ -204,11 +206,12 @@ fn print_session(number: u32) {
     );
     let chip = &session.chip;
     println!(
-        "T\t{}\t{}\t{}\t{}",
+        "T\t{}\t{}\t{}\t{}\t{}",
         chip.stamp(),
         chip.start(),
         chip.transmit_tally(),
-        chip.receive_tally()
+        chip.receive_tally(),
+        chip.peek()
     );
 }
 

@@ -1,10 +1,10 @@
 //! Random devices against the C driver, whose command stands behind `--`: it
 //! tells whether they are in range as the model does, and leaves their bytes.
 
-use model::calls::{hexadecimal, without_padding, DEVICE_BYTES, PADDING};
-use model::generate::ranges::{device, draws, spoilt};
+use model::calls::{hexadecimal, without_padding, Lent, DEVICE_BYTES, PADDING};
+use model::generate::ranges::{device, draws, left_behind, spoilt, wrong_status, FOLLOWED};
 use model::program::Program;
-use model::ranges::in_range;
+use model::ranges::{in_range, STATUS};
 use std::ops::RangeInclusive;
 use std::process::ExitCode;
 
@@ -16,14 +16,53 @@ const SHOWN: usize = 9;
 /// the tallies of each direction. So may padding.
 const ANY: [usize; 5] = [1, 4, 5, 6, 43];
 const TALLIES: [RangeInclusive<usize>; 2] = [24..=31, 48..=55];
+/// The least count of what is told of a status byte.
+const ENOUGH: u32 = 40;
 
-/// What was reached: devices in range, and those that one byte put out of range.
+/// What was reached: devices in range, those that one byte put out of range, those whose
+/// status byte alone is wrong in one bit and in several, and those whose status byte alone
+/// is wrong since it stayed behind a field that it follows.
 struct Reach {
     inside: u32,
     out_by: [u32; DEVICE_BYTES],
+    wrong_bit: [u32; 8],
+    wrong_bits: u32,
+    left_behind: [u32; DEVICE_BYTES],
 }
 
-/// The devices of a run, each one in range and then spoilt.
+impl Reach {
+    /// A device out of range, and the byte by which it is no longer in range.
+    fn out(&mut self, place: usize, bytes: &[u8; DEVICE_BYTES]) {
+        match Lent::of_bytes(*bytes).wrong_status() {
+            0 => self.out_by[place] += 1,
+            _ if place != STATUS => self.left_behind[place] += 1,
+            wrong => {
+                self.out_by[STATUS] += 1;
+                match wrong.count_ones() {
+                    1 => self.wrong_bit[wrong.trailing_zeros() as usize] += 1,
+                    _ => self.wrong_bits += 1,
+                }
+            }
+        }
+    }
+
+    /// What is told of status bytes, and whether that is often enough.
+    fn statuses(&self) -> (String, bool) {
+        let left_behind = FOLLOWED.map(|place| self.left_behind[place]);
+        let text = format!(
+            "status byte alone wrong in one bit, by bit: {:?}\n\
+             status byte alone wrong in several bits: {}\n\
+             status byte left behind by byte {FOLLOWED:?}: {left_behind:?}\n",
+            self.wrong_bit, self.wrong_bits
+        );
+        let mut all = self.wrong_bit.into_iter().chain(left_behind);
+        let enough = |count: u32| count >= ENOUGH;
+        (text, all.all(enough) && enough(self.wrong_bits))
+    }
+}
+
+/// The devices of a run, each one in range, then spoilt, then with a wrong status byte, and
+/// with one that stayed behind another field.
 fn run(index: u32, reach: &mut Reach) -> Vec<[u8; DEVICE_BYTES]> {
     let draws = &mut draws(index);
     let mut all = Vec::new();
@@ -31,9 +70,17 @@ fn run(index: u32, reach: &mut Reach) -> Vec<[u8; DEVICE_BYTES]> {
         let whole = device(draws);
         let (place, other) = spoilt(draws, &whole);
         assert!(in_range(&whole), "{}", hexadecimal(&whole));
-        reach.inside += 1 + u32::from(in_range(&other));
-        reach.out_by[place] += u32::from(!in_range(&other));
-        all.extend([whole, other]);
+        let wrong = (STATUS, wrong_status(draws, &whole));
+        let left_behind = left_behind(draws, &whole);
+        reach.inside += 1;
+        all.push(whole);
+        for (place, bytes) in [(place, other), wrong, left_behind] {
+            match in_range(&bytes) {
+                true => reach.inside += 1,
+                false => reach.out(place, &bytes),
+            }
+            all.push(bytes);
+        }
     }
     all
 }
@@ -77,6 +124,9 @@ fn main() -> ExitCode {
     let mut reach = Reach {
         inside: 0,
         out_by: [0; DEVICE_BYTES],
+        wrong_bit: [0; 8],
+        wrong_bits: 0,
+        left_behind: [0; DEVICE_BYTES],
     };
     for index in 0..RUNS {
         if let Err(why) = compare(&driver, &run(index, &mut reach)) {
@@ -89,6 +139,12 @@ fn main() -> ExitCode {
     let (inside, out_by) = (reach.inside, reach.out_by);
     let out: u32 = out_by.iter().sum();
     println!("random_ranges: {inside} devices in range and {out} out of it by one byte are told");
+    let (statuses, often) = reach.statuses();
+    print!("{statuses}");
+    if !often {
+        println!("random_ranges: a kind of wrong status byte was told fewer than {ENOUGH} times");
+        return ExitCode::FAILURE;
+    }
     let any = |place: &usize| {
         let tally = TALLIES.iter().any(|places| places.contains(place));
         tally || ANY.contains(place) || PADDING.contains(place)

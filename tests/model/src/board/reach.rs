@@ -10,9 +10,10 @@ pub use refused::{goes_nowhere, granted, needs_a_select};
 
 use super::lines::{Bench, Line, Side};
 use super::{Board, Call, CHANNELS, NOT_SELECTED, NO_SUCH_PORT, WRONG_ROOM};
-use crate::calls::Lent;
+use crate::calls::{Call as ChipCall, Lent};
 use crate::chip::Chip;
 use crate::counts::Counts;
+use crate::reach::status;
 use crate::Format;
 use std::process::ExitCode;
 
@@ -113,7 +114,10 @@ impl Reach {
         for call in ON_CHANNELS {
             counts.name_places(CHANNELS, [format!("{call} of channel")]);
             counts.name(["the", "another"].map(|which| shown_after(which, call)));
+            counts.name([wrong_status_shown_after(call)]);
         }
+        counts.name([wrong_status_shown_after("reset")]);
+        status::name_of_channels(&mut counts);
         counts.name_places(CHANNELS, ["reset of channel", "arrival on channel"]);
         interrupts::name(&mut counts);
         refused::name(&mut counts);
@@ -156,6 +160,7 @@ impl Reach {
                     self.device_shown(made, *place);
                     let lents = [&made.before.room[*place], &bench.side().room[*place]];
                     tallies::shown(&mut self.counts, &made.call, made.refusal, lents);
+                    self.status_shown(made, *place, lents);
                 }
                 // What is shown from now on is not what the call left.
                 (Line::Set(_) | Line::Device(..), _) => last = None,
@@ -204,6 +209,24 @@ impl Reach {
         if let Some(channel) = channel(&before.board, call) {
             let which = if channel == place { "the" } else { "another" };
             self.count(&shown_after(which, call.name()));
+        }
+    }
+
+    /// The status of a device that is shown behind a call, and before it.
+    fn status_shown(&mut self, made: &Made, place: usize, lents: [&Lent; 2]) {
+        let (before, call) = (&made.before, &made.call);
+        let statuses = lents.map(Lent::status);
+        if let Some(of_chip) = of_chip(call) {
+            status::count_moves(&mut self.counts, &of_chip, statuses);
+        }
+        let wrong = lents[0].wrong_status();
+        let about_it = channel(&before.board, call) == Some(place) || *call == Call::Reset;
+        if wrong == 0 || !about_it {
+            return;
+        }
+        status::count_bits(&mut self.counts, wrong);
+        if made.refusal == 0 && place < CHANNELS {
+            self.count(&wrong_status_shown_after(call.name()));
         }
     }
 
@@ -377,6 +400,24 @@ fn refused_with(call: &str, refusal: u8) -> String {
 
 fn shown_after(which: &str, call: &str) -> String {
     format!("{which} channel shown after {call}")
+}
+
+fn wrong_status_shown_after(call: &str) -> String {
+    format!("channel whose status byte alone was wrong shown after {call}")
+}
+
+/// The chip's call that a board's is; none where it is none of one channel, and no reset.
+fn of_chip(call: &Call) -> Option<ChipCall> {
+    Some(match *call {
+        Call::In(port @ 0..=3) => ChipCall::Read(port),
+        Call::Out(port @ 0..=3, value) => ChipCall::Write(port, value),
+        Call::Reset => ChipCall::Reset,
+        Call::Pins(_, levels) => ChipCall::Pins(levels),
+        Call::Transmit(_) => ChipCall::Transmit,
+        Call::Receive(_, level) => ChipCall::Receive(level),
+        Call::Outputs(_) => ChipCall::Outputs,
+        Call::In(_) | Call::Out(..) | Call::Interrupts => return None,
+    })
 }
 
 /// Only a write of port 7 and a reset that are done may change a stored select.

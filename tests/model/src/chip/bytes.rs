@@ -1,10 +1,12 @@
 //! The chip as the bytes of the struct that a host lends, and a chip from such
 //! bytes (docs/RANGES.md has each field). A number of more than one byte
-//! has its low byte first; the bytes between fields are 0.
+//! has its low byte first; the bytes between fields are 0. The status byte (P7) is made of
+//! the chip as its bytes are looked at: no call of the chip keeps it, and each device that
+//! does is held to it.
 
 use super::{Chip, Receiver};
 use crate::calls::DEVICE_BYTES;
-use crate::ranges::{bits_before, format, in_range};
+use crate::ranges::{bits_before, format, in_range, STATUS};
 use crate::{frame, Format};
 
 // The places of the numbers of four bytes (P4).
@@ -92,6 +94,7 @@ impl Chip {
         let marks = [self.empty_mark, self.change_mark];
         bytes[56..59].copy_from_slice(&flags.map(u8::from));
         bytes[59..61].copy_from_slice(&marks.map(u8::from));
+        bytes[STATUS] = self.status();
         bytes
     }
 

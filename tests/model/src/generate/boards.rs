@@ -1,20 +1,22 @@
 //! Random runs for the board's C driver, on two boards: hostile numbers in every
-//! call and field, each call done and refused in every way on a channel out of range
-//! and on one in range, a cabinet in which both boards take every select, two channels
-//! joined by a line while others are called between its ticks, and ticks of channels
-//! whose tallies wrap. What a call may have changed, and what it must have left, is looked at behind it.
+//! call and field, each call done and refused in every way on a channel out of range, on
+//! one whose status byte alone is wrong and on one in range, a cabinet in which both boards
+//! take every select, two channels joined by a line while others are called between its
+//! ticks, ticks of channels whose tallies wrap, and calls that move a channel's status. What
+//! a call may have changed, and what it must have left, is looked at behind it.
 
 use super::any_mode;
-use super::ranges::{device, out_of_range, spoilt, tally};
+use super::ranges::{device, out_of_range, spoilt, tally, wrong_status};
 use crate::board::lines::{Bench, Line, Side, PLACES};
 use crate::board::{Board, Call, CHANNELS};
-use crate::calls::DEVICE_BYTES;
+use crate::calls::{Lent, DEVICE_BYTES};
 use crate::chip::{decode, set_number, RECEIVE_TALLY, TRANSMIT_TALLY};
 use crate::draw::Draws;
 use crate::frame;
 use crate::pair::hearing::heard;
+use crate::ranges::restated;
 
-pub const RUNS: u32 = 120;
+pub const RUNS: u32 = 160;
 /// A run ends with the episode that brings it over this number of lines.
 const LINES: usize = 3000;
 /// The kind in the seeds, behind that of the devices.
@@ -35,6 +37,9 @@ const NUMBERS: [[u8; 2]; 10] = [
 ];
 /// Bits 7-5 of a select.
 const NOT_USED: [u8; 5] = [0, 32, 64, 128, 224];
+
+/// The byte of a wrong parity (docs/RANGES.md).
+const WRONG_PARITY: usize = 35;
 
 /// How the bytes of a device are drawn.
 type Device = fn(&mut Draws) -> [u8; DEVICE_BYTES];
@@ -62,12 +67,14 @@ pub fn run(index: u32) -> Vec<Line> {
     };
     let mut episode = index;
     while run.lines.len() < LINES {
-        match episode % 6 {
+        match episode % 8 {
             0 => run.each_call(out_of_range),
             1 => run.cabinet(),
             2 => run.joined(),
             3 => run.each_call(device),
             4 => run.tallied(),
+            5 => run.each_call(wrongly_stated),
+            6 => run.statuses(),
             _ => run.hostile(),
         }
         episode += 1;
@@ -76,8 +83,15 @@ pub fn run(index: u32) -> Vec<Line> {
     run.lines
 }
 
+/// A device in range but for its status byte.
+fn wrongly_stated(draws: &mut Draws) -> [u8; DEVICE_BYTES] {
+    let whole = device(draws);
+    wrong_status(draws, &whole)
+}
+
 /// A device whose next transmit tick begins a frame and whose next receive tick is that
-/// of a stop sample, most often; any tallies, of which some then wrap.
+/// of a stop sample, most often, maybe of a character with a wrong parity; any tallies, of
+/// which some then wrap.
 fn about_to_stamp(draws: &mut Draws) -> [u8; DEVICE_BYTES] {
     let mut bytes = device(draws);
     let mode1 = any_mode(draws);
@@ -90,11 +104,12 @@ fn about_to_stamp(draws: &mut Draws) -> [u8; DEVICE_BYTES] {
     let levels = frame(&format, character);
     let so_far = &levels[..format.stop_sample() as usize];
     bytes[32..43].copy_from_slice(&heard(mode1, 0, so_far));
+    bytes[WRONG_PARITY] = (format.parity && draws.one_in(3)).into();
     for place in [TRANSMIT_TALLY, RECEIVE_TALLY] {
         let any = tally(draws);
         set_number(&mut bytes, place, draws.of(&[u32::MAX, u32::MAX, any]));
     }
-    bytes
+    restated(bytes)
 }
 
 impl Run<'_> {
@@ -116,9 +131,28 @@ impl Run<'_> {
         self.bench.call(&call).1
     }
 
+    /// The same; now and then a channel is shown where a bit of its status moves.
+    fn make_seen(&mut self, board: usize, call: Call) -> Vec<u8> {
+        self.turn_to(board);
+        let before = self.statuses_now();
+        let values = self.make(board, call);
+        let after = self.statuses_now();
+        let moved = (0..CHANNELS).find(|&place| before[place] != after[place]);
+        if let Some(channel) = moved.filter(|_| self.draws.one_in(3)) {
+            self.add(Line::Bytes(channel));
+        }
+        values
+    }
+
+    /// The status of each channel.
+    fn statuses_now(&self) -> Vec<u8> {
+        let channels = self.bench.side().channels().iter();
+        channels.map(Lent::status).collect()
+    }
+
     /// A call and a look behind it.
     fn call(&mut self, board: usize, call: Call) -> Vec<u8> {
-        let values = self.make(board, call);
+        let values = self.make_seen(board, call);
         self.look(call);
         values
     }
@@ -203,10 +237,11 @@ impl Run<'_> {
     /// A device of any bytes, most of them in range or nearly so.
     fn any_device(&mut self, board: usize, place: usize) {
         let whole = device(self.draws);
-        let bytes = match self.draws.below(6) {
+        let bytes = match self.draws.below(8) {
             0 => [(); DEVICE_BYTES].map(|()| self.draws.byte()),
             1 => spoilt(self.draws, &whole).1,
             2 => out_of_range(self.draws),
+            3 | 4 => wrong_status(self.draws, &whole),
             _ => whole,
         };
         self.turn_to(board);
@@ -310,7 +345,7 @@ impl Run<'_> {
             let select = self.draws.byte();
             self.set(board, numbers[board], select);
             for place in 0..PLACES {
-                if self.draws.one_in(2) {
+                if !self.draws.one_in(4) {
                     self.any_device(board, place);
                 }
             }
@@ -360,7 +395,7 @@ impl Run<'_> {
             let channel = self.draws.of(&[end.channel, end.channel, end.channel | 8]);
             let call = match self.draws.below(8) {
                 0..=2 => Call::Transmit(channel),
-                3..=5 => Call::Receive(channel, 1),
+                3..=5 => Call::Receive(channel, self.draws.of(&[1, 1, 0])),
                 6 => Call::Receive(channel, wrong),
                 _ => Call::Reset,
             };
@@ -368,6 +403,28 @@ impl Run<'_> {
             self.count(end.board, channels);
             self.call_on(end, about_to_stamp, call);
             self.count(end.board, CHANNELS);
+        }
+    }
+
+    // The status byte.
+
+    /// Calls that move bits of a channel's status, and the channel behind each.
+    fn statuses(&mut self) {
+        for _ in 0..20 {
+            let end = self.any_end();
+            let number = self.draws.below(4) as u8;
+            self.set(end.board, number, 8 * number + end.channel);
+            let value = self.draws.byte();
+            let levels = [(); 3].map(|()| self.draws.below(2) as u8);
+            let call = match self.draws.below(8) {
+                0 => Call::In(0),
+                1 => Call::In(1),
+                2 => Call::Out(0, value),
+                3 | 4 => Call::Out(3, value & 63),
+                5 | 6 => Call::Pins(end.channel, levels),
+                _ => Call::Reset,
+            };
+            self.call_on(end, device, call);
         }
     }
 
@@ -428,11 +485,11 @@ impl Run<'_> {
 
     /// Both transmit ticks, then both receive ticks with the other's level.
     fn joined_tick(&mut self, [a, b]: [End; 2]) {
-        let from_a = self.make(a.board, Call::Transmit(a.channel))[0];
-        let from_b = self.make(b.board, Call::Transmit(b.channel))[0];
-        self.make(b.board, Call::Receive(b.channel, from_a));
+        let from_a = self.make_seen(a.board, Call::Transmit(a.channel))[0];
+        let from_b = self.make_seen(b.board, Call::Transmit(b.channel))[0];
+        self.make_seen(b.board, Call::Receive(b.channel, from_a));
         let last = Call::Receive(a.channel, from_b);
-        self.make(a.board, last);
+        self.make_seen(a.board, last);
         if self.draws.one_in(4) {
             self.look(last);
         }

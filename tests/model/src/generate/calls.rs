@@ -2,18 +2,19 @@
 //! and receive ticks, apart or in one call; the levels received are frames, good
 //! and damaged, short pulses and noise, or what was sent.
 
-use super::ranges::tally;
+use super::ranges::{device, stated, tally, wrong_status};
 use super::{accepted_mode, any_mode, ACCEPTED_MODES};
 use crate::calls::{Call, Garbage, Lent, Line, DEVICE_BYTES};
 use crate::chip::{decode, set_number, Chip, INTERNAL_RECEIVE_CLOCK};
 use crate::chip::{RECEIVE_TALLY, STAMP, START, TRANSMIT_TALLY};
 use crate::draw::Draws;
+use crate::ranges::STATUS;
 use crate::{frame, Format};
 use std::collections::VecDeque;
 
 pub const RUNS: u32 = 102;
 /// A run ends with the episode that brings it over this number of lines.
-const LINES: usize = 3200;
+const LINES: usize = 4000;
 /// The kind in the seeds, behind those of the sessions.
 const KIND: u32 = 4;
 
@@ -59,7 +60,7 @@ const TURNS: [Turn; 6] = [
 /// The bytes of a device just reset that have a range: the first and the last of
 /// some that are alike, and the least number that is out of range in each, alone
 /// and with all above it (docs/RANGES.md).
-const LEAST_OUT_OF_RANGE: [(usize, usize, u8); 13] = [
+const LEAST_OUT_OF_RANGE: [(usize, usize, u8); 14] = [
     (0, 0, 1),    // mode 1, which was not accepted
     (2, 2, 1),    // accepted, with no mode 1
     (3, 3, 64),   // the command
@@ -73,6 +74,7 @@ const LEAST_OUT_OF_RANGE: [(usize, usize, u8); 13] = [
     (33, 42, 1),  // the character under way
     (44, 44, 2),  // unread
     (56, 60, 2),  // the flags
+    (61, 61, 1),  // the status byte
 ];
 
 /// A run that is being written, and the device that it leaves.
@@ -95,8 +97,9 @@ pub fn run(index: u32) -> Vec<Line> {
         levels: VecDeque::new(),
         sent: 1,
     };
-    run.garbage();
+    run.each_call();
     run.stamped();
+    run.statuses();
     let mut mode = index * ACCEPTED_MODES / RUNS;
     while run.lines.len() < LINES {
         run.set_up(accepted_mode(mode % ACCEPTED_MODES));
@@ -112,25 +115,43 @@ impl Run<'_> {
         self.lines.push(line);
     }
 
-    /// The numbers answered.
+    /// The numbers answered. Now and then the device is shown where a bit of its status
+    /// moves.
     fn call(&mut self, call: Call) -> Vec<u32> {
+        let shown = self.draws.one_in(4);
+        self.call_shown(call, shown)
+    }
+
+    /// The same, where it is said whether the device is shown.
+    fn call_shown(&mut self, call: Call, shown: bool) -> Vec<u32> {
+        let before = self.lent.status();
         self.lines.push(Line::Call(call));
-        self.lent.call(&call).1
+        let (_, answer) = self.lent.call(&call);
+        if shown && self.lent.status() != before {
+            self.add(Line::Bytes);
+        }
+        answer
     }
 
-    fn device(&mut self, garbage: Garbage) {
+    /// One that is out of range in some way, or else any in range.
+    fn device(&mut self, garbage: Option<Garbage>) {
         let bytes = match garbage {
-            Garbage::AllOnes => [255; DEVICE_BYTES],
-            Garbage::Random => [(); DEVICE_BYTES].map(|()| self.draws.byte()),
-            Garbage::OneByte => one_wrong_byte(self.draws),
+            None => device(self.draws),
+            Some(Garbage::AllOnes) => [255; DEVICE_BYTES],
+            Some(Garbage::Random) => [(); DEVICE_BYTES].map(|()| self.draws.byte()),
+            Some(Garbage::OneByte) => one_wrong_byte(self.draws),
+            Some(Garbage::Status) => {
+                let whole = device(self.draws);
+                wrong_status(self.draws, &whole)
+            }
         };
-        self.add(Line::Device(Some(garbage), bytes));
+        self.add(Line::Device(garbage, bytes));
     }
 
-    /// Each call as the first on a device out of range, then the bytes, which
-    /// the model knows after a refusal and after a call that only looks, and a
+    /// Each call as the first on a device out of range and on one in range, then the bytes,
+    /// which the model knows also after a refusal and after a call that only looks, and a
     /// look at what the device is now.
-    fn garbage(&mut self) {
+    fn each_call(&mut self) {
         let level = self.draws.between(2, 255) as u8;
         let address = self.draws.between(4, 255) as u8;
         let value = self.draws.byte();
@@ -154,10 +175,11 @@ impl Run<'_> {
             Call::Peek,
             Call::InRange,
         ];
-        for garbage in Garbage::ALL {
+        for garbage in Garbage::ALL.map(Some).into_iter().chain([None]) {
             for call in calls.into_iter().chain(LOOKS) {
                 self.device(garbage);
-                self.call(call);
+                self.lines.push(Line::Call(call));
+                self.lent.call(&call);
                 self.add(Line::Bytes);
                 self.call(Call::InRange);
                 self.call(Call::Outputs);
@@ -256,13 +278,81 @@ impl Run<'_> {
         }
     }
 
+    // The status byte.
+
+    /// Every bit of the status moved by each call that can move it, on frames of one tick a
+    /// bit with parity, and the device behind that.
+    fn statuses(&mut self) {
+        for in_one_call in [false, true] {
+            let mode1 = any_mode(self.draws) & !3 | 17;
+            let calls = [Call::Reset, Call::Write(2, mode1), Call::Write(2, 0)];
+            calls.into_iter().for_each(|call| self.move_status(call));
+            self.move_status(Call::Write(3, 37));
+            for levels in [[0, 1, 0], [0, 0, 0], [1, 1, 0], [0, 0, 0]] {
+                self.move_status(Call::Pins(levels));
+                self.move_status(Call::Read(1));
+            }
+            self.send(in_one_call);
+            self.send(in_one_call);
+            for command in [36, 37] {
+                self.move_status(Call::Write(3, command));
+            }
+            self.hear_badly(in_one_call);
+            self.move_status(Call::Read(0));
+            let off = self.draws.of(&[0, 1, 32, 33]);
+            for command in [53, 37, off, 37] {
+                self.hear_badly(in_one_call);
+                self.move_status(Call::Write(3, command));
+            }
+            self.hear_badly(in_one_call);
+            self.move_status(Call::Pins([1, 0, 0]));
+            self.move_status(Call::Pins([0, 0, 0]));
+            self.move_status(Call::Reset);
+        }
+    }
+
+    fn move_status(&mut self, call: Call) {
+        self.call_shown(call, true);
+    }
+
+    /// A character, whose frame is sent to its end and leaves an empty-mark.
+    fn send(&mut self, in_one_call: bool) {
+        let value = self.draws.byte();
+        self.move_status(Call::Write(0, value));
+        for _ in 0..self.format().frame_length() {
+            self.move_status(match in_one_call {
+                true => Call::Tick(1),
+                false => Call::Transmit,
+            });
+        }
+    }
+
+    /// A character with the other parity, and one with a stop of 0, which overruns it.
+    fn hear_badly(&mut self, in_one_call: bool) {
+        let format = self.format();
+        let even = !format.even;
+        let mut levels = vec![true];
+        levels.extend(frame(&Format { even, ..format }, self.draws.byte()));
+        levels.extend(frame(&format, self.draws.byte()));
+        let stop = levels.len() - format.stop as usize;
+        levels[stop..].fill(false);
+        for level in numbers(levels) {
+            self.move_status(match in_one_call {
+                true => Call::Tick(level),
+                false => Call::Receive(level),
+            });
+        }
+    }
+
+    // Set-ups and frames.
+
     /// Both modes, a command and low pins, after a reset, on a device out of
     /// range, or on the device as it is.
     fn set_up(&mut self, mode1: u8) {
         match self.draws.below(8) {
             0..=1 => {
                 let garbage = self.draws.of(&Garbage::ALL);
-                self.device(garbage);
+                self.device(Some(garbage));
             }
             2..=5 => drop(self.call(Call::Reset)),
             _ => {}
@@ -494,7 +584,10 @@ fn one_wrong_byte(draws: &mut Draws) -> [u8; DEVICE_BYTES] {
     let (place, least) = draws.of(&places);
     let most = draws.of(&[least, 255]);
     bytes[place] = draws.between(least.into(), most.into()) as u8;
-    bytes
+    match place {
+        STATUS => bytes,
+        _ => stated(draws, bytes),
+    }
 }
 
 /// A piece of a recording: mark, a good frame, a frame of the other parity, a

@@ -7,7 +7,7 @@ mod ends;
 mod waits;
 
 use super::any_mode;
-use super::ranges::{device, out_of_range, spoilt};
+use super::ranges::{device, out_of_range, spoilt, stated, wrong_status};
 use crate::calls::{Call as ChipCall, Lent, DEVICE_BYTES};
 use crate::chip::View;
 use crate::draw::Draws;
@@ -17,7 +17,7 @@ use crate::session::{other, Unit, UNITS};
 
 pub const RUNS: u32 = 140;
 /// The runs of waits, whose seeds come behind those.
-pub const WAIT_RUNS: u32 = 60;
+pub const WAIT_RUNS: u32 = 72;
 /// A run ends with the episode that brings it over this number of lines.
 const LINES: usize = 800;
 /// The kind in the seeds, behind that of the boards.
@@ -109,7 +109,19 @@ impl Run<'_> {
                 self.tick();
                 self.tick();
             }
+            if self.draws.one_in(2) {
+                self.tick_behind_a_run();
+            }
         }
+    }
+
+    /// A tick in which something may happen, alone.
+    fn tick_behind_a_run(&mut self) {
+        let ticks = self.ticks();
+        if ticks > 1 {
+            self.run(ticks - 1);
+        }
+        self.tick();
     }
 
     /// Up to something that happens on a way, or the tick before or behind it; or
@@ -173,12 +185,14 @@ impl Run<'_> {
         let any = self.draws.between(RUN_LIMIT + 1, u32::MAX - 1);
         let lengths = [0, 1, few, RUN_LIMIT + 1, above, above + few, any, u32::MAX];
         for out in 0..4 {
-            for ticks in lengths {
+            for ticks in lengths.into_iter().chain([0]) {
                 self.set_ranges(out);
                 self.run(ticks);
             }
-            self.set_ranges(out);
-            self.tick();
+            for _ in 0..2 {
+                self.set_ranges(out);
+                self.tick();
+            }
         }
         let out = self.draws.below(4);
         self.set_ranges(out);
@@ -196,17 +210,20 @@ impl Run<'_> {
         self.set(both);
     }
 
-    /// An end that would go on if its one wrong byte were not looked at, or bytes that
-    /// are no end at all.
+    /// An end that would go on if its one wrong byte were not looked at, as often as not the
+    /// status byte, or bytes that are no end at all.
     fn spoilt_end(&mut self, bytes: [u8; DEVICE_BYTES]) -> [u8; DEVICE_BYTES] {
         if self.draws.one_in(3) {
             return out_of_range(self.draws);
+        }
+        if self.draws.one_in(2) {
+            return wrong_status(self.draws, &bytes);
         }
         let mut bytes = bytes;
         // The mode pointer, the SYN pointer, DSR, a flag or a mark.
         let place = self.draws.of(&[7, 8, 9, 56, 57, 58, 59, 60]);
         bytes[place] = self.draws.between(3, 255) as u8;
-        bytes
+        stated(self.draws, bytes)
     }
 
     // A bench.

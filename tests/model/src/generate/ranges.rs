@@ -1,12 +1,13 @@
-//! Random devices by their bytes (docs/RANGES.md), in range and with one byte
-//! spoilt.
+//! Random devices by their bytes (docs/RANGES.md), in range, with one byte spoilt and with
+//! a wrong status byte. What a device is spoilt by is most often alone: the status byte
+//! follows the other fields.
 
 use super::any_mode;
 use crate::calls::DEVICE_BYTES;
 use crate::chip::{decode, format_bytes, set_number};
 use crate::chip::{RECEIVE_TALLY, STAMP, START, TRANSMIT_TALLY};
 use crate::draw::Draws;
-use crate::ranges::{bits_before, in_range, ticks_to};
+use crate::ranges::{bits_before, in_range, meant_status, restated, ticks_to, STATUS};
 use crate::Format;
 
 /// The kind in the seeds, behind that of the calls.
@@ -15,6 +16,12 @@ const KIND: u32 = 5;
 const EDGES: [u8; 18] = [
     0, 1, 2, 3, 4, 5, 8, 9, 15, 16, 24, 32, 63, 64, 65, 96, 128, 255,
 ];
+/// What the status byte follows: the command, two pins, whether a character waits and one is
+/// unread, the flags and the marks. All but the command are 0 or 1.
+pub const FOLLOWED: [usize; 10] = [3, 9, 10, FULL, 44, 56, 57, 58, 59, 60];
+/// The character that waits, and whether one does.
+const HOLDING: usize = 20;
+const FULL: usize = 21;
 
 /// The draws of a run of devices.
 pub fn draws(index: u32) -> Draws {
@@ -45,6 +52,30 @@ pub fn device(draws: &mut Draws) -> [u8; DEVICE_BYTES] {
     for place in [START, TRANSMIT_TALLY, STAMP, RECEIVE_TALLY] {
         set_number(&mut bytes, place, tally(draws));
     }
+    restated(bytes)
+}
+
+/// The device with the status byte that its other fields mean. What has to be 0 or 1 and is
+/// not is read by its lowest bit, or as 1.
+pub fn stated(draws: &mut Draws, mut bytes: [u8; DEVICE_BYTES]) -> [u8; DEVICE_BYTES] {
+    let by_lowest_bit = draws.one_in(2);
+    let mut read = bytes;
+    for &place in &FOLLOWED[1..] {
+        read[place] = match by_lowest_bit {
+            true => read[place] % 2,
+            false => read[place].min(1),
+        };
+    }
+    bytes[STATUS] = meant_status(&read);
+    bytes
+}
+
+/// A device in range with another status byte: most often one bit is wrong, else any are.
+pub fn wrong_status(draws: &mut Draws, device: &[u8; DEVICE_BYTES]) -> [u8; DEVICE_BYTES] {
+    let mut bytes = *device;
+    let one = 1 << draws.below(8);
+    let any = draws.between(1, 255) as u8;
+    bytes[STATUS] ^= draws.of(&[one, one, any]);
     bytes
 }
 
@@ -102,8 +133,22 @@ fn receiver(draws: &mut Draws) -> [u8; 11] {
     bytes
 }
 
+/// A device in range in which one field that the status byte follows is turned over, while
+/// that byte stays as it was; and the place of the field. The command is one by its transmit
+/// enable.
+pub fn left_behind(draws: &mut Draws, device: &[u8; DEVICE_BYTES]) -> (usize, [u8; DEVICE_BYTES]) {
+    let mut bytes = *device;
+    let place = draws.of(&FOLLOWED);
+    bytes[place] ^= 1;
+    if place == FULL {
+        bytes[HOLDING] = 0;
+    }
+    (place, bytes)
+}
+
 /// The device with another number in one byte, and which byte it is: a number at
-/// the edge of some field, one more or one less, or any.
+/// the edge of some field, one more or one less, or any. Now and then the status byte
+/// stays behind a field that it follows.
 pub fn spoilt(draws: &mut Draws, device: &[u8; DEVICE_BYTES]) -> (usize, [u8; DEVICE_BYTES]) {
     let mut bytes = *device;
     let place = draws.below(DEVICE_BYTES as u32) as usize;
@@ -113,6 +158,9 @@ pub fn spoilt(draws: &mut Draws, device: &[u8; DEVICE_BYTES]) -> (usize, [u8; DE
         2 => bytes[place].wrapping_sub(1),
         _ => draws.byte(),
     };
+    if place != STATUS && !draws.one_in(4) {
+        bytes = stated(draws, bytes);
+    }
     (place, bytes)
 }
 
@@ -128,11 +176,16 @@ pub fn out_of_range(draws: &mut Draws) -> [u8; DEVICE_BYTES] {
             bytes[3] |= 5;
             bytes[20..22].fill(0);
             bytes[44] = 1;
+            bytes = restated(bytes);
         }
     }
-    if in_range(&bytes) {
-        // The mode pointer, a pin, a flag or a mark.
-        bytes[draws.of(&[7, 9, 11, 56, 60])] = draws.between(2, 255) as u8;
+    if !in_range(&bytes) {
+        return bytes;
     }
-    bytes
+    if draws.one_in(2) {
+        return wrong_status(draws, &bytes);
+    }
+    // The mode pointer, a pin, a flag or a mark.
+    bytes[draws.of(&[7, 9, 11, 56, 60])] = draws.between(2, 255) as u8;
+    stated(draws, bytes)
 }

@@ -3,11 +3,12 @@
 //!
 //! `ticks` is what happens in a tick of a run, `ways` what a run does on each of its two
 //! ways, by the `facts` that are counted of it, `step` where a receiver stands to the
-//! frame that it hears. `waits` is what a wait does, `hosts` what only a host's has, and
-//! `tallies` what both do to the tallies.
+//! frame that it hears. `waits` is what a wait does, `hosts` what only a host's has,
+//! `tallies` what both do to the tallies and `status` what they do to the status bytes.
 
 mod facts;
 mod hosts;
+mod status;
 mod step;
 mod tallies;
 mod ticks;
@@ -85,6 +86,7 @@ impl Reach {
         ways::name(&mut counts);
         hosts::name(&mut counts);
         tallies::name(&mut counts);
+        status::name(&mut counts, &CALLED);
         Reach { counts }
     }
 
@@ -118,14 +120,19 @@ impl Reach {
         match call {
             Call::Tick => {
                 self.on_ranges("tick", pair, shown);
+                let before = pair.clone();
                 let levels = pair.call(&call).1[0];
                 self.counts.count(&answer(levels));
+                if shown {
+                    status::watch(&mut self.counts, "tick", &before, pair);
+                }
             }
             Call::Run(ticks) => self.ran(pair, ticks, shown),
             Call::Wait(number, limit) if shown => {
                 let before = pair.clone();
                 hosts::watch(&mut self.counts, pair, number, limit);
                 tallies::watch(&mut self.counts, "wait", &before, pair);
+                status::watch(&mut self.counts, "wait", &before, pair);
             }
             Call::Wait(..) => drop(pair.call(&call)),
             Call::On(unit, of_chip) => {
@@ -166,14 +173,17 @@ impl Reach {
         if (1..=RUN_LIMIT).contains(&ticks) {
             ways::watch(&mut self.counts, pair, ticks);
             tallies::watch(&mut self.counts, "run", &before, pair);
+            status::watch(&mut self.counts, "run", &before, pair);
         } else {
             tallies::left(&mut self.counts, called, pair);
         }
     }
 
     fn on_ranges(&mut self, called: &str, pair: &Pair, shown: bool) {
-        let name = on_range(called, range(pair));
-        self.counts.count_if(shown, &name);
+        if shown {
+            self.counts.count(&on_range(called, range(pair)));
+            status::called(&mut self.counts, called, pair);
+        }
     }
 }
 

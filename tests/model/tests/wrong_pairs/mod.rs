@@ -15,6 +15,7 @@ mod waits;
 use model::calls::{Lent, DEVICE_BYTES};
 use model::pair::lines::Make;
 use model::pair::{named, Answer, Call, Pair, RUN_LIMIT};
+use model::ranges::{meant_status, wrong_bits, STATUS};
 use model::session::{Unit, UNITS};
 use model::wait::WAIT_LIMIT;
 
@@ -115,9 +116,12 @@ const TRANSMIT: u8 = 1;
 const RECEIVE: u8 = 4;
 const BREAK: u8 = 8;
 
+/// The status byte stays as right as it is.
 fn change(pair: &mut Pair, unit: Unit, change: impl Fn(&mut Bytes)) {
     let mut bytes = pair.end(unit).bytes();
+    let wrong = wrong_bits(&bytes);
     change(&mut bytes);
+    bytes[STATUS] = meant_status(&bytes) ^ wrong;
     *pair.end_mut(unit) = Lent::of_bytes(bytes);
 }
 

@@ -3,6 +3,7 @@
 use super::{is_out, ran, settle, Bytes, Wrong};
 use model::calls::{Lent, DEVICE_BYTES};
 use model::pair::{Answer, Call, Pair, RUN_TOO_LONG};
+use model::ranges::restated;
 use model::session::UNITS;
 
 pub const ALL: &[Wrong] = &[
@@ -61,7 +62,7 @@ fn b_left(pair: &mut Pair, call: &Call) -> Answer {
 
 fn taken_as_zeros(pair: &mut Pair, call: &Call) -> Answer {
     ran(pair, call, |pair, ticks| {
-        let zeros: Bytes = [0; DEVICE_BYTES];
+        let zeros: Bytes = restated([0; DEVICE_BYTES]);
         for unit in UNITS {
             if is_out(pair.end(unit)) {
                 *pair.end_mut(unit) = Lent::of_bytes(zeros);

@@ -1,6 +1,7 @@
 //! What each wrong program does to the tallies and stamps.
 
-use super::{on_board, on_pair, Bytes, Wrong};
+use super::Wrong;
+use crate::faults::{on_board, on_pair, Bytes};
 use model::calls::Call;
 use model::chip::{number, set_number, RECEIVE_TALLY, STAMP, START, TRANSMIT_TALLY};
 use model::ranges::{format, in_range};

@@ -2,8 +2,9 @@
 
 use crate::board::lines::Side;
 use crate::board::{channels_that, pending, CHANNELS, RECEIVE_READY, TRANSMIT_READY};
-use crate::calls::Lent;
+use crate::calls::{Lent, DEVICE_BYTES};
 use crate::counts::Counts;
+use crate::ranges::{meant_status, STATUS};
 
 /// The status bit that the jumpers of channels 6 and 7 would make an interrupt.
 const EMPTY_OR_CHANGED: u8 = 4;
@@ -31,22 +32,26 @@ const KINDS: [Kind; 2] = [
 ];
 
 /// What is counted of each channel in the byte of a port.
-const IN_A_PORT: [&str; 5] = [
+const IN_A_PORT: [&str; 7] = [
     "a 1",
     "a 0 beside a 1",
     "a masked 1",
     "a 0 at status bit 2",
     "a 0 for bytes out of range that have the bit",
+    "a 0 for a status byte alone wrong that has the bit",
+    "a 0 for fields that have the bit under a status byte alone wrong",
 ];
 
 /// What is counted of each channel in the byte of its lines.
-const ON_LINES: [&str; 6] = [
+const ON_LINES: [&str; 8] = [
     "asserted",
     "not asserted beside one that is",
     "pending and masked",
     "enabled and not pending",
     "enabled and not pending at status bit 2",
     "enabled and not pending for bytes out of range that have the bit",
+    "enabled and not pending for a status byte alone wrong that has the bit",
+    "enabled and not pending for fields that have the bit under a status byte alone wrong",
 ];
 
 fn in_a_port(kind: &Kind, what: &str) -> String {
@@ -74,6 +79,8 @@ pub fn polled(counts: &mut Counts, side: &Side, port: u8) {
             pending & !(kind.mask)(side),
             empty_or_changed(side) & !pending,
             own_bits(side.channels(), kind.bit),
+            wrong_statuses(side.channels(), |bytes| bytes[STATUS] & kind.bit != 0),
+            wrong_statuses(side.channels(), |bytes| meant_status(bytes) & kind.bit != 0),
         ];
         for (what, channels) in IN_A_PORT.iter().zip(facts) {
             counts.count_places(&in_a_port(kind, what), channels);
@@ -94,6 +101,8 @@ pub fn looked_at(counts: &mut Counts, side: &Side) {
             idle,
             idle & empty_or_changed(side),
             idle & own_bits(side.channels(), kind.bit),
+            idle & wrong_statuses(side.channels(), |bytes| bytes[STATUS] & kind.bit != 0),
+            idle & wrong_statuses(side.channels(), |bytes| meant_status(bytes) & kind.bit != 0),
         ];
         for (what, channels) in ON_LINES.iter().zip(facts) {
             counts.count_places(&on_lines(kind, what), channels);
@@ -111,6 +120,14 @@ fn zeros_beside_ones(byte: u8) -> u8 {
     } else {
         !byte
     }
+}
+
+/// The channels whose status byte alone is wrong, and of whose bytes a fact holds.
+fn wrong_statuses(room: &[Lent], fact: impl Fn(&[u8; DEVICE_BYTES]) -> bool) -> u8 {
+    channels_that(room, |lent| match lent {
+        Lent::OutOfRange(bytes) => lent.wrong_status() != 0 && fact(bytes),
+        Lent::InRange(_) => false,
+    })
 }
 
 /// The channels out of range that would have an interrupt if their own bytes were

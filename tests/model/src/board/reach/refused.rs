@@ -44,6 +44,8 @@ const CALLS: [(&str, &[u8], &[Kept]); 21] = [
 const BOARD: &str = "board";
 const IN_RANGE: &str = "channel in range";
 const OUT_OF_RANGE: &str = "channel out of range";
+/// Which is out of range too.
+const WRONG_STATUS: &str = "channel whose status byte alone is wrong";
 
 fn asked(call: &Call) -> String {
     match *call {
@@ -76,6 +78,7 @@ pub fn name(counts: &mut Counts) {
                 Channel => {
                     name_left(counts, IN_RANGE, call, refusals);
                     name_left(counts, OUT_OF_RANGE, call, refusals);
+                    name_left(counts, WRONG_STATUS, call, refusals);
                 }
                 Value => {
                     counts.name(refusals.iter().map(|number| kept_back(call, *number)));
@@ -110,6 +113,11 @@ pub fn device_shown(counts: &mut Counts, before: &Side, place: usize, call: &Cal
     };
     let changed = granted(before, call).0.room[place] != before.room[place];
     counts.count_if(changed, &left(what, &asked(call), refusal));
+    let wrong_status = before.room[place].wrong_status() != 0;
+    counts.count_if(
+        changed && wrong_status,
+        &left(WRONG_STATUS, &asked(call), refusal),
+    );
 }
 
 /// What a call would leave, and the values that it would answer, if it were not

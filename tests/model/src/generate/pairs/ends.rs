@@ -8,7 +8,7 @@ use crate::chip::{INTERNAL_RECEIVE_CLOCK, INTERNAL_TRANSMIT_CLOCK};
 use crate::draw::Draws;
 use crate::generate::{any_mode, ranges};
 use crate::pair::hearing::{heard, Receiver};
-use crate::ranges::in_range;
+use crate::ranges::{in_range, restated};
 use crate::{frame, Format};
 
 const TRANSMIT: u8 = 1;
@@ -214,7 +214,7 @@ fn switched(draws: &mut Draws, modes: &Modes, sending: &Sending) -> [u8; DEVICE_
             _ => bytes[0] = any_mode(draws),
         }
     }
-    bytes
+    restated(bytes)
 }
 
 /// The ends of a line that is silent, or soon: nothing more than what is under way.
@@ -234,5 +234,5 @@ pub fn silent(draws: &mut Draws) -> [[u8; DEVICE_BYTES]; 2] {
             bytes[32] = draws.below(2) as u8;
         }
     }
-    both
+    both.map(restated)
 }

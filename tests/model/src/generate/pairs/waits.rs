@@ -8,6 +8,7 @@ use crate::calls::{Call as ChipCall, DEVICE_BYTES};
 use crate::generate::ranges::{device, spoilt};
 use crate::pair::lines::Line;
 use crate::pair::Call;
+use crate::ranges::{meant_status, wrong_bits, STATUS};
 use crate::session::{other, Unit, UNITS};
 use crate::wait::WAIT_LIMIT;
 
@@ -15,6 +16,13 @@ use crate::wait::WAIT_LIMIT;
 const UNREAD: usize = 44;
 /// The ticks within which it is looked for when a character comes.
 const SOON: u32 = 800;
+
+/// Says whether a character is unread; the status byte stays as right, or as wrong, as it is.
+fn mark(bytes: &mut [u8; DEVICE_BYTES], unread: bool) {
+    let wrong = wrong_bits(bytes);
+    bytes[UNREAD] = unread.into();
+    bytes[STATUS] = meant_status(bytes) ^ wrong;
+}
 
 impl Run<'_> {
     pub fn wait_episode(&mut self, episode: u32) {
@@ -108,8 +116,8 @@ impl Run<'_> {
     /// Two devices, of which the one that is waited on seldom holds a character: such a
     /// wait is soon over.
     fn set_unread(&mut self, mut both: [[u8; DEVICE_BYTES]; 2], unit: Unit) {
-        both[unit as usize][UNREAD] = self.draws.one_in(5).into();
-        both[other(unit) as usize][UNREAD] = self.draws.one_in(2).into();
+        mark(&mut both[unit as usize], self.draws.one_in(5));
+        mark(&mut both[other(unit) as usize], self.draws.one_in(2));
         self.set(both);
     }
 
@@ -137,7 +145,9 @@ impl Run<'_> {
                 self.set_marked_ranges(out);
                 self.wait(unit, limit);
             }
-            for _ in 0..2 {
+            // While the other alone is out of range a character may be there, or come.
+            let times = if out == 1 << other(unit) as u32 { 6 } else { 2 };
+            for _ in 0..times {
                 self.set_marked_ranges(out);
                 self.wait_at(unit);
             }
@@ -150,7 +160,7 @@ impl Run<'_> {
         let mut both = ends::ends(self.draws);
         for (end, bytes) in both.iter_mut().enumerate() {
             let is_out = out >> end & 1 == 1;
-            bytes[UNREAD] = self.draws.one_in(if is_out { 2 } else { 4 }).into();
+            mark(bytes, self.draws.one_in(if is_out { 2 } else { 4 }));
             if is_out {
                 *bytes = self.spoilt_end(*bytes);
             }

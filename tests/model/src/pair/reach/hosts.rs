@@ -5,6 +5,7 @@ use super::waits::{self, of_limit, that, Ending};
 use crate::calls::Lent;
 use crate::counts::Counts;
 use crate::pair::{named, Pair};
+use crate::ranges::STATUS;
 use crate::session::{other, UNITS};
 use crate::wait::WAIT_LIMIT;
 
@@ -38,6 +39,17 @@ const RANGES: [&str; 4] = [
 const MARKED: &str = "its unit out of range and marked unread";
 /// The byte of the mark (docs/RANGES.md).
 const UNREAD: usize = 44;
+/// One that is out of range by its status byte alone; so is one whose byte says that a
+/// character is unread, and one whose mark says so.
+const WRONG_STATUS: [&str; 3] = [
+    "its unit's status byte alone wrong",
+    "its unit's status byte alone wrong and unread by that byte",
+    "its unit's status byte alone wrong and marked unread",
+];
+/// The other one, while the unit that is named is in range.
+const OTHER_STATUS: &str = "the other's status byte alone wrong";
+/// Its bit.
+const RECEIVE_READY: u8 = 2;
 /// Which no run from reset leaves with a character unread.
 const RECEIVE_OFF: &str = "receive off at its unit";
 
@@ -52,9 +64,12 @@ fn with(ending: Ending, range: &str) -> String {
 /// What can be with each ending: a unit out of range holds no character, and gets none.
 fn ranges(ending: Ending) -> Vec<&'static str> {
     match ending {
-        Ending::Found => vec![RANGES[0], RANGES[2], RECEIVE_OFF],
-        Ending::Brought => vec![RANGES[0], RANGES[2]],
-        _ => RANGES.into_iter().chain([MARKED]).collect(),
+        Ending::Found => vec![RANGES[0], RANGES[2], OTHER_STATUS, RECEIVE_OFF],
+        Ending::Brought => vec![RANGES[0], RANGES[2], OTHER_STATUS],
+        _ => {
+            let further = [MARKED, OTHER_STATUS].into_iter().chain(WRONG_STATUS);
+            RANGES.into_iter().chain(further).collect()
+        }
     }
 }
 
@@ -74,13 +89,22 @@ pub fn watch(counts: &mut Counts, pair: &mut Pair, number: u32, limit: u32) {
     let unit = named(number);
     let is_out = |unit| matches!(pair.end(unit), Lent::OutOfRange(_));
     let out = [is_out(unit), is_out(other(unit))].map(usize::from);
-    let marked = is_out(unit) && pair.end(unit).bytes()[UNREAD] != 0;
+    let bytes = pair.end(unit).bytes();
+    let marked = is_out(unit) && bytes[UNREAD] != 0;
+    let is_wrong = |unit| pair.end(unit).wrong_status() != 0;
+    let wrong_status = is_wrong(unit);
+    let unread_by_status = wrong_status && bytes[STATUS] & RECEIVE_READY != 0;
+    let other_status = is_wrong(other(unit)) && !is_out(unit);
     let receive_off = pair.end(unit).view().receive_off();
     let ending = waits::watch(counts, pair, unit, limit);
     let range = RANGES[out[0] + 2 * out[1]];
     for (fact, with_what) in [
         (true, range),
         (marked, MARKED),
+        (wrong_status, WRONG_STATUS[0]),
+        (unread_by_status, WRONG_STATUS[1]),
+        (wrong_status && marked, WRONG_STATUS[2]),
+        (other_status, OTHER_STATUS),
         (receive_off && ending == Ending::Found, RECEIVE_OFF),
     ] {
         if fact {
