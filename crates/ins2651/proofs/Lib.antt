@@ -1,1 +1,2 @@
 mod Branches
+mod Weights

@@ -3,8 +3,9 @@
 // The acts below the calls (the two ticks and what only counts, the reads and writes of registers, pins, status, outputs), the conditions and the
 // refusals check no range: they are for a caller that settles its device once (docs/RANGES.md).
 ghost use mathlib.Core.Path.{_≡_};
-ghost use mathlib.Core.Bool.{true};
-ghost use Prim.Native.Nat.{_≤_};
+ghost use mathlib.Core.Bool.{true, cond, _&&_};
+ghost use Prim.Native.Nat.{_≤_, _+_, _*_};
+ghost use lib.Dec.{eqb};
 ghost use Rattle.line_rules.specs.Sending.{bit};
 ghost use Rattle.line_rules.specs.declared.Arrival.{Arrival};
 ghost use Rattle.link_rules.specs.Hearing.{arrives};
@@ -16,7 +17,7 @@ ghost use Rattle.ins2651_rules.specs.Conditions;
 ghost use Rattle.ins2651_rules.specs.Conditions.{dataSetReady, clearToSend, modeSet, mayWrite};
 ghost use Rattle.ins2651_rules.specs.Status;
 ghost use Rattle.ins2651_rules.specs.Looks;
-ghost use Rattle.ins2651_rules.specs.Status.{modemBits, errorBits, readyBits, statusByte, outputsOf};
+ghost use Rattle.ins2651_rules.specs.Status.{modemBits, errorBits, readyBits, outputsOf};
 ghost use Rattle.ins2651_rules.specs.Ranges.{mode1InRange, commandInRange, registersInRange, pinsInRange, flagsInRange, statusInRange, inRange, restsInRange, settled};
 ghost use Rattle.ins2651_rules.specs.Refusals.{readRefusal, mode1Refusal, modeRefusal, commandRefusal, writeRefusal, pinsRefusal, levelRefusal};
 ghost use Rattle.ins2651_rules.specs.RegisterReads;
@@ -226,7 +227,7 @@ fn ready_bits(d: Device) -> u8
 
 // What the stored status byte of a device must be (P7).
 fn status_byte(d: Device) -> u8
-    ensures { λ r. ⌜ r ≡ statusByte d ⌝ }
+    ensures { λ r. ⌜ r ≡ statusKept d .status ⌝ }
 {
     modem_bits(d) + error_bits(d.flags) + ready_bits(d)
 }
@@ -235,9 +236,19 @@ fn status_byte(d: Device) -> u8
 pub fn keep_status(mut d: Device) -> Device
     ensures { λ r. ⌜ r ≡ statusKept d ⌝ }
 {
-    let status = status_byte(d);
-    d.status = status;
+    let kept = status_byte(d);
+    d.status = kept;
     d
+}
+
+// The byte put together where something happened that a bit goes by, and else the stored one.
+fn status_if(happened: bool, d: Device) -> u8
+    ensures { λ r. ⌜ r ≡ cond happened (statusKept d .status) (d .status) ⌝ }
+{
+    if happened {
+        return status_byte(d);
+    }
+    d.status
 }
 
 // The levels of the outputs, of a device in range.
@@ -300,25 +311,55 @@ fn flags_in_range(f: Flags) -> bool
     (f.framing <= 1) & (f.overrun <= 1) & (f.parity <= 1) & (f.empty <= 1) & (f.change <= 1)
 }
 
-// The stored byte is what the other fields mean (P7).
-fn status_in_range(d: Device) -> bool
-    ensures { λ b. ⌜ b ≡ statusInRange d ⌝ }
+// Levels and flags that are 0 or 1 are their own bits of the status: the two levels, ..
+fn level_weights(p: Pins) -> u32
+    ensures { λ r. ⌜ (r ≡ 128 * p .dsr + 64 * p .dcd) × (r ≤ 48960) ⌝ }
 {
-    d.status == status_byte(d)
+    128 * p.dsr as u32 + 64 * p.dcd as u32
 }
 
-// Whether a device is one of document 01.
+// .. and the three error flags.
+fn error_weights(f: Flags) -> u32
+    ensures { λ r. ⌜ (r ≡ 32 * f .framing + 16 * f .overrun + 8 * f .parity) × (r ≤ 14280) ⌝ }
+{
+    32 * f.framing as u32 + 16 * f.overrun as u32 + 8 * f.parity as u32
+}
+
+// The stored byte is what the other fields mean, where the pins and flags are in range: a low level is a 1 of the status (P7).
+fn status_in_range(d: Device) -> bool
+    ensures { λ b. ⌜ b ≡ eqb (d .status + (128 * d .pins .dsr + 64 * d .pins .dcd)) (192 + (32 * d .flags .framing + 16 * d .flags .overrun + 8 * d .flags .parity) + readyBits d) ⌝ }
+{
+    d.status as u32 + level_weights(d.pins) == 192 + error_weights(d.flags) + ready_bits(d) as u32
+}
+
+// What the status shows, and the byte itself.
+fn shown_in_range(d: Device) -> bool
+    ensures { λ b. ⌜ b ≡ (pinsInRange (d .pins) && flagsInRange (d .flags) && statusInRange d) ⌝ }
+{
+    let each = pins_in_range(d.pins) & flags_in_range(d.flags);
+    if each {
+        return status_in_range(d);
+    }
+    false
+}
+
+// Whether a device is one of document 01. By branches, so that each test is over before the next begins.
 pub fn in_range(d: Device) -> bool
     ensures { λ b. ⌜ b ≡ inRange d ⌝ }
 {
-    let set = registers_in_range(d.registers) & pins_in_range(d.pins);
-    if set {
-        return link::sender_in_range(d.sender)
-            & link::receiver_in_range(d.receiver)
-            & flags_in_range(d.flags)
-            & status_in_range(d);
+    let shown = shown_in_range(d);
+    if !shown {
+        return false;
     }
-    false
+    let set = registers_in_range(d.registers);
+    if !set {
+        return false;
+    }
+    let sends = link::sender_in_range(d.sender);
+    if !sends {
+        return false;
+    }
+    link::receiver_in_range(d.receiver)
 }
 
 // The same of a device with no frame and no character under way, where that is known.
@@ -326,11 +367,9 @@ pub fn rests_in_range(d: Device) -> bool
     ensures { λ b. ⌜ b ≡ restsInRange d ⌝ }
 {
     registers_in_range(d.registers)
-        & pins_in_range(d.pins)
         & link::sender_rests_in_range(d.sender)
         & link::receiver_rests_in_range(d.receiver)
-        & flags_in_range(d.flags)
-        & status_in_range(d)
+        & shown_in_range(d)
 }
 
 fn clear_registers() -> Registers
@@ -406,11 +445,14 @@ fn refuse_read(n: u8, d: Device) -> Answer
 pub fn read_holding(mut d: Device) -> Answer
     ensures { λ r. ⌜ r ≡ readHolding d ⌝ }
 {
+    let held = unread(d);
     d.receiver.unread = 0;
+    let status = status_if(held, d); // bit 1
+    d.status = status;
     Answer {
         refusal: 0,
         value: d.receiver.holding,
-        device: keep_status(d), // bit 1
+        device: d,
     }
 }
 
@@ -421,13 +463,8 @@ pub fn read_status(mut d: Device) -> Answer
     let value = d.status;
     let marked = 0 < d.flags.change;
     d.flags.change = 0;
-    if marked {
-        return Answer {
-            refusal: 0,
-            value: value,
-            device: keep_status(d), // bit 2
-        };
-    }
+    let status = status_if(marked, d); // bit 2
+    d.status = status;
     Answer {
         refusal: 0,
         value: value,
@@ -555,10 +592,13 @@ pub fn write_refusal(r: Registers, address: u8, v: u8) -> u8
 pub fn write_holding(mut d: Device, v: u8) -> Device
     ensures { λ r. ⌜ r ≡ writeHolding d v ⌝ }
 {
+    let happened = (d.sender.full == 0) | (0 < d.flags.empty);
     let loaded = link::load(d.sender, v);
     d.sender = loaded;
     d.flags.empty = 0;
-    keep_status(d) // bits 2 and 0
+    let status = status_if(happened, d); // bits 2 and 0
+    d.status = status;
+    d
 }
 
 fn syns_written(mut r: Registers, v: u8) -> Registers
@@ -639,7 +679,9 @@ fn write_command(mut d: Device, v: u8) -> Device
     d.registers.command = kept;
     d.receiver = receiver;
     d.flags = flags;
-    keep_status(d) // bits 5 to 0
+    let status = status_byte(d); // bits 5 to 0
+    d.status = status;
+    d
 }
 
 fn write_syn(mut d: Device, v: u8) -> Device
@@ -705,7 +747,8 @@ fn changes(p: Pins, dsr: u8, dcd: u8) -> bool
 pub fn pinned(mut d: Device, dsr: u8, dcd: u8, cts: u8) -> Device
     ensures { λ r. ⌜ r ≡ Pinning.pinned d dsr dcd cts ⌝ }
 {
-    let change = line::or_set(changes(d.pins, dsr, dcd), d.flags.change);
+    let happened = changes(d.pins, dsr, dcd);
+    let change = line::or_set(happened, d.flags.change);
     let pins = Pins {
         dsr: dsr,
         dcd: dcd,
@@ -713,7 +756,9 @@ pub fn pinned(mut d: Device, dsr: u8, dcd: u8, cts: u8) -> Device
     };
     d.pins = pins;
     d.flags.change = change;
-    keep_status(d) // bits 7, 6 and 2
+    let status = status_if(happened, d); // bits 7, 6 and 2
+    d.status = status;
+    d
 }
 
 // The three modem inputs take new levels.
@@ -758,12 +803,8 @@ fn sent_by(mut d: Device, s: Sent) -> Ticked
     let level = number(s.level);
     d.sender = half;
     d.flags.empty = empty;
-    if s.began | empties {
-        return Ticked {
-            level,
-            device: keep_status(d), // bits 2 and 0
-        };
-    }
+    let status = status_if(s.began | empties, d); // bits 2 and 0
+    d.status = status;
     Ticked { level, device: d }
 }
 
@@ -824,9 +865,8 @@ fn received_by(mut d: Device, r: Received) -> Device
     let half = r.half;
     d.receiver = half;
     d.flags = flags;
-    if 0 < arrivals(heard) {
-        return keep_status(d); // bits 5, 4, 3 and 1
-    }
+    let status = status_if(0 < arrivals(heard), d); // bits 5, 4, 3 and 1
+    d.status = status;
     d
 }
 

@@ -10,20 +10,18 @@ use Rattle.line_rules.specs.declared.Heard.{Heard}
 use Rattle.line_rules.specs.declared.Heard.the-variants.{Nothing, Character}
 use Rattle.line_rules.specs.Sending.{on, orSet}
 use Rattle.line_rules.proofs.Table.{both}
-use Rattle.link_rules.specs.declared.SenderHalf.{SenderHalf}
 use Rattle.link_rules.specs.declared.ReceiverHalf.{ReceiverHalf}
-use Rattle.link_rules.specs.Parts.{loaded, dropped, emptied}
+use Rattle.link_rules.specs.Parts.{dropped}
 use Rattle.link_rules.specs.Within.{senderInRange, receiverInRange}
 use Rattle.line_rules.proofs.Choice.{either, each, all}
 use Rattle.link_rules.proofs.SenderRange.{loaded-in, transmit-in}
 use Rattle.link_rules.proofs.ReceiverRange.{dropped-in, emptied-in, receive-in}
 use Rattle.ins2651_rules.specs.declared.Registers.{Registers}
-use Rattle.ins2651_rules.specs.declared.Pins.{Pins}
 use Rattle.ins2651_rules.specs.declared.Flags.{Flags}
 use Rattle.ins2651_rules.specs.declared.Device.{Device}
 use Rattle.ins2651_rules.specs.declared.Answer.{Answer}
 use Rattle.ins2651_rules.specs.declared.Ticked.{Ticked}
-use Rattle.ins2651_rules.specs.Shape.{resetDevice, withParts, withRegisters, withCommand, pinLevels, withEmpty, withChange}
+use Rattle.ins2651_rules.specs.Shape.{resetDevice, withRegisters, withCommand, withEmpty, withChange}
 use Rattle.ins2651_rules.specs.Modes.{has, commandClears, transmitEnable, receiveEnable, sendFormat, receiveFormat}
 use Rattle.ins2651_rules.specs.Conditions.{mayStart, breakOn, listening, transmitEnabled}
 use Rattle.ins2651_rules.specs.Ranges.{mode1InRange, commandInRange, registersInRange, pinsInRange, flagsInRange, statusInRange, inRange}
@@ -35,7 +33,7 @@ use Rattle.ins2651_rules.specs.Pinning.{changes, pinned}
 use Rattle.ins2651_rules.specs.Ticks.{sent, transmitTick, noted, received, receiveTick}
 use Rattle.ins2651_rules.specs.Runs.{Call, Reset, Read, Write, SetPins, Transmit, Receive, Outputs, next, after}
 use Rattle.ins2651_rules.specs.Rows.{refusal}
-use Rattle.ins2651_rules.proofs.StatusKept.{Kept, built-kept, unshown-kept, status-read-kept, sent-kept, heard-kept}
+use Rattle.ins2651_rules.proofs.StatusKept.{Kept, built-kept, unshown-kept, read-kept, written-kept, pinned-kept, status-read-kept, sent-kept, heard-kept}
 use Rattle.ins2651_rules.proofs.Settled.{settled-is, reset-in}
 use Rattle.ins2651_rules.proofs.Done.{does-read, does-write, does-pins, does-transmit, does-receive}
 use Rattle.ins2651_rules.proofs.Commands.{bit4-gone, accepted-stored}
@@ -132,9 +130,6 @@ module _ (d : Device) (p : In d) where
   empty-in : (x : ℕ) → leb x 1 ≡ true → flagsInRange (withEmpty (d .flags) x) ≡ true
   empty-in x h = five (f .framing) (f .overrun) (f .parity) h (f .change)
 
-  built : (q : Registers) (ps : Pins) (s : SenderHalf) (h : ReceiverHalf) (g : Flags) → Kept (withParts d q ps s h g)
-  built q ps s h g = built-kept d q ps s h g
-
   registers-kept : (q : Registers) → q .command ≡ d .registers .command → Kept (withRegisters d q)
   registers-kept q c = unshown-kept d (p .status) q (d .sender) (d .receiver) c refl refl
 
@@ -142,7 +137,7 @@ module _ (d : Device) (p : In d) where
   unfolding readRegister
   read-in address =
       either (λ (o : Answer). In (o .device)) (eqb address 0)
-      (record { registers = p .registers; pins = p .pins; sender = p .sender; receiver = emptied-in (d .receiver) (p .receiver); flags = p .flags; status = built (d .registers) (d .pins) (d .sender) (emptied (d .receiver)) (d .flags) })
+      (record { registers = p .registers; pins = p .pins; sender = p .sender; receiver = emptied-in (d .receiver) (p .receiver); flags = p .flags; status = read-kept d (p .status) })
       (either (λ (o : Answer). In (o .device)) (eqb address 1)
       (record { registers = p .registers; pins = p .pins; sender = p .sender; receiver = p .receiver; flags = change-in 0 refl; status = status-read-kept d (p .status) })
       (either (λ (o : Answer). In (o .device)) (eqb address 2)
@@ -177,7 +172,7 @@ module _ (d : Device) (p : In d) where
         sender = p .sender;
         receiver = either (λ (q : ReceiverHalf). receiverInRange q ≡ true) (receiveEnable v) (p .receiver) (emptied-in (dropped (d .receiver)) (dropped-in (d .receiver) (p .receiver)));
         flags = five (cleared-in (commandClears v) (d .flags .framing) (f .framing)) (cleared-in (commandClears v) (d .flags .overrun) (f .overrun)) (cleared-in (commandClears v) (d .flags .parity) (f .parity)) (cleared-in (not (transmitEnable v)) (d .flags .empty) (f .empty)) (f .change);
-        status = built (withCommand (d .registers) (stored v)) (d .pins) (d .sender) (receiverCommanded (d .receiver) v) (flagsCommanded (d .flags) v);
+        status = built-kept d (withCommand (d .registers) (stored v)) (d .pins) (d .sender) (receiverCommanded (d .receiver) v) (flagsCommanded (d .flags) v);
       }
 
   pins-in : (dsr dcd cts : ℕ) → pinsRefusal dsr dcd cts ≡ 0 → In (pinned d dsr dcd cts)
@@ -189,7 +184,7 @@ module _ (d : Device) (p : In d) where
         sender = p .sender;
         receiver = p .receiver;
         flags = change-in (orSet (changes (d .pins) dsr dcd) (d .flags .change)) (set-in (changes (d .pins) dsr dcd) (d .flags .change) (f .change));
-        status = built (d .registers) (pinLevels dsr dcd cts) (d .sender) (d .receiver) (withChange (d .flags) (orSet (changes (d .pins) dsr dcd) (d .flags .change)));
+        status = pinned-kept d (p .status) dsr dcd cts;
       }
 
   transmit-tick-in : In (transmitTick d .device)
@@ -225,7 +220,7 @@ module _ (d : Device) (p : In d) where
   unfolding writeRegister
   write-in address v h =
       each In (eqb address 0)
-      (λ a. record { registers = p .registers; pins = p .pins; sender = loaded-in (d .sender) v (p .sender); receiver = p .receiver; flags = empty-in 0 refl; status = built (d .registers) (d .pins) (loaded (d .sender) v) (d .receiver) (withEmpty (d .flags) 0) }) λ a.
+      (λ a. record { registers = p .registers; pins = p .pins; sender = loaded-in (d .sender) v (p .sender); receiver = p .receiver; flags = empty-in 0 refl; status = written-kept d (p .status) v }) λ a.
       each In (eqb address 1)
       (λ b. record { registers = syns-in v; pins = p .pins; sender = p .sender; receiver = p .receiver; flags = p .flags; status = registers-kept (synsWritten (d .registers) v) (syns-command (d .registers) v) }) λ b.
       each In (eqb address 2)

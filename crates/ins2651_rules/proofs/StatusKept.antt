@@ -2,27 +2,31 @@
 -- Assumes nothing.
 use Prim.Native.Nat.{ℕ, _+_}
 use mathlib.Core.Path.{_≡_, refl, sym, ap, ap₂, _∙_}
-use mathlib.Core.Bool.{Bool, true, false, cond, _&&_, _||_, true≢false}
+use mathlib.Core.Bool.{Bool, true, false, cond, not, _&&_, _||_, true≢false}
 use lib.Dec.{eqb}
+use borrow.Author.Tests.{eqb-true}
 use Rattle.line_rules.specs.declared.Arrival.{Arrival}
 use Rattle.line_rules.specs.declared.Heard.{Heard}
 use Rattle.line_rules.specs.declared.Heard.the-variants.{Nothing, Character}
 use Rattle.line_rules.specs.Sending.{on, orSet}
 use Rattle.line_rules.proofs.Bits.{on-bit}
-use Rattle.line_rules.proofs.Choice.{neither}
+use Rattle.line_rules.proofs.Choice.{is-so, neither}
 use Rattle.link_rules.specs.declared.SenderHalf.{SenderHalf}
 use Rattle.link_rules.specs.declared.ReceiverHalf.{ReceiverHalf}
+use Rattle.link_rules.specs.Parts.{loaded, emptied}
 use Rattle.link_rules.specs.Hearing.{arrives}
 use Rattle.link_rules.proofs.Halves.{full-after, unread-after}
 use Rattle.ins2651_rules.specs.declared.Registers.{Registers}
 use Rattle.ins2651_rules.specs.declared.Pins.{Pins}
 use Rattle.ins2651_rules.specs.declared.Flags.{Flags}
 use Rattle.ins2651_rules.specs.declared.Device.{Device}
-use Rattle.ins2651_rules.specs.Shape.{withStatus, statusKept, withParts, withFlags, withSender, withReceiver, withEmpty, withChange, withUnshown, statusIf}
+use Rattle.ins2651_rules.specs.Shape.{withStatus, statusKept, withParts, withFlags, withPins, withSender, withReceiver, pinLevels, withEmpty, withChange, withUnshown, statusIf}
 use Rattle.ins2651_rules.specs.Modes.{transmitEnable, sendFormat, receiveFormat}
-use Rattle.ins2651_rules.specs.Conditions.{mayStart, breakOn, listening, eitherMark, unread, mayWrite}
+use Rattle.ins2651_rules.specs.Conditions.{mayStart, breakOn, listening, eitherMark, unread, vacant, mayWrite}
 use Rattle.ins2651_rules.specs.Status.{weigh, modemBits, errorBits, statusByte}
-use Rattle.ins2651_rules.specs.RegisterReads.{readStatus}
+use Rattle.ins2651_rules.specs.RegisterReads.{readHolding, readStatus}
+use Rattle.ins2651_rules.specs.RegisterWrites.{writeHolding}
+use Rattle.ins2651_rules.specs.Pinning.{changes, pinned}
 use Rattle.ins2651_rules.specs.Ticks.{sent, runsEmpty, transmitTick, noted, received, arrivals, receiveTick}
 
 abbrev pub Kept : Device → Type 0
@@ -76,6 +80,47 @@ module _ (d : Device) (k : Kept d) where
       ∙ sym (same-status d (withUnshown d r s h)
       (record { modem = refl; errors = refl; mark = refl; unread = ap on u; may-write = ap₂ (λ (v : ℕ) (x : ℕ). transmitEnable v && eqb x 0) c f }))
 
+  -- a data read
+  pub read-kept : Kept (readHolding d .device)
+  read-kept =
+      if-kept (unread d) (withReceiver d (emptied (d .receiver)) (d .flags)) (built-kept d (d .registers) (d .pins) (d .sender) (emptied (d .receiver)) (d .flags))
+      (λ e. record { modem = refl; errors = refl; mark = refl; unread = sym e; may-write = refl })
+
+  -- a data write
+  pub written-kept : (v : ℕ) → Kept (writeHolding d v)
+  written-kept v =
+      let s : SenderHalf = loaded (d .sender) v in
+      let f : Flags = withEmpty (d .flags) 0 in
+      if-kept (vacant d || on (d .flags .empty)) (withSender d s f) (built-kept d (d .registers) (d .pins) s (d .receiver) f)
+      (λ e.
+      let none = neither (vacant d) (on (d .flags .empty)) e in
+      record {
+        modem = refl;
+        errors = refl;
+        mark = ap (λ (b : Bool). b || on (d .flags .change)) (sym (none .1));
+        unread = refl;
+        may-write = ap (λ (b : Bool). transmitEnable (d .registers .command) && b) (sym (none .0));
+      })
+
+  -- a pin call
+  pub pinned-kept : (dsr dcd cts : ℕ) → Kept (pinned d dsr dcd cts)
+  unfolding pinned
+  pinned-kept dsr dcd cts =
+      let t : Bool = changes (d .pins) dsr dcd in
+      let p : Pins = pinLevels dsr dcd cts in
+      let f : Flags = withChange (d .flags) (orSet t (d .flags .change)) in
+      if-kept t (withPins d p f) (built-kept d (d .registers) p (d .sender) (d .receiver) f)
+      (λ e.
+      let none = neither (not (eqb (d .pins .dsr) dsr)) (not (eqb (d .pins .dcd) dcd)) e in
+      record {
+        modem = ap₂ (λ (x y : ℕ). weigh (eqb x 0) 128 + weigh (eqb y 0) 64) (sym (eqb-true (d .pins .dsr) dsr (is-so _ (none .0)))) (sym (eqb-true (d .pins .dcd) dcd (is-so _ (none .1))));
+        errors = refl;
+        mark = ap (λ (b : Bool). on (d .flags .empty) || on (orSet b (d .flags .change))) e;
+        unread = refl;
+        may-write = refl;
+      })
+
+  -- a status read
   pub status-read-kept : Kept (readStatus d .device)
   status-read-kept =
       let n : Device = withFlags d (withChange (d .flags) 0) in

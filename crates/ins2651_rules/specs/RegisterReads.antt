@@ -8,14 +8,15 @@ use Rattle.link_rules.specs.Parts.{emptied}
 use Rattle.ins2651_rules.specs.declared.Device.{Device}
 use Rattle.ins2651_rules.specs.declared.Answer.{Answer}
 use Rattle.ins2651_rules.specs.Shape.{withRegisters, withFlags, withReceiver, statusIf, withChange, toMode1, toMode2, toSyn1, answered, refusedRead}
+use Rattle.ins2651_rules.specs.Conditions.{unread}
 use Rattle.ins2651_rules.specs.Ranges.{settled}
 use Rattle.ins2651_rules.specs.Refusals.{readRefusal}
 
--- RHR gives what it last held, and is read
+-- RHR gives what it last held, and is read; the status changes where it was unread
 abbrev pub readHolding : Device → Answer
-readHolding d = answered (d .receiver .holding) (withReceiver d (emptied (d .receiver)) (d .flags))
+readHolding d = answered (d .receiver .holding) (statusIf (unread d) d (withReceiver d (emptied (d .receiver)) (d .flags)))
 
--- the stored byte, from before the change-mark is cleared; where there is none to clear the byte stays
+-- the stored byte, from before the change-mark is cleared; the status changes where it was set
 abbrev pub readStatus : Device → Answer
 readStatus d = answered (d .status) (statusIf (on (d .flags .change)) d (withFlags d (withChange (d .flags) 0)))
 

@@ -1,22 +1,24 @@
 -- Register writes: document 01, "Registers", with request P1. Address 0 is THR, 1 SYN1, SYN2 and DLE in turn, 2 mode 1 and mode 2 in turn, 3 command.
 -- Assumes nothing.
 use Prim.Native.Nat.{ℕ, _-_, _*_, _/_, _%_}
-use mathlib.Core.Bool.{Bool, cond, not}
+use mathlib.Core.Bool.{Bool, cond, not, _||_}
 use lib.Dec.{eqb}
+use Rattle.line_rules.specs.Sending.{on}
 use Rattle.link_rules.specs.declared.ReceiverHalf.{ReceiverHalf}
 use Rattle.link_rules.specs.Parts.{loaded, dropped, emptied}
 use Rattle.ins2651_rules.specs.declared.Registers.{Registers}
 use Rattle.ins2651_rules.specs.declared.Flags.{Flags}
 use Rattle.ins2651_rules.specs.declared.Device.{Device}
 use Rattle.ins2651_rules.specs.declared.Outcome.{Outcome}
-use Rattle.ins2651_rules.specs.Shape.{withParts, withRegisters, withSender, withMode1, withMode2, accepting, toMode1, toMode2, withSyn1, withSyn2, withDle, toSyn1, toSyn2, toDle, withCommand, withErrors, withEmpty, done, refused}
+use Rattle.ins2651_rules.specs.Shape.{withParts, withRegisters, withSender, statusIf, withMode1, withMode2, accepting, toMode1, toMode2, withSyn1, withSyn2, withDle, toSyn1, toSyn2, toDle, withCommand, withErrors, withEmpty, done, refused}
 use Rattle.ins2651_rules.specs.Modes.{transmitEnable, receiveEnable, commandClears}
+use Rattle.ins2651_rules.specs.Conditions.{vacant}
 use Rattle.ins2651_rules.specs.Ranges.{settled}
 use Rattle.ins2651_rules.specs.Refusals.{writeRefusal}
 
--- THR takes the character, and the empty-mark goes
+-- THR takes the character, and the empty-mark goes; the status changes where THR was empty or the mark set
 abbrev pub writeHolding : Device → ℕ → Device
-writeHolding d v = withSender d (loaded (d .sender) v) (withEmpty (d .flags) 0)
+writeHolding d v = statusIf (vacant d || on (d .flags .empty)) d (withSender d (loaded (d .sender) v) (withEmpty (d .flags) 0))
 
 -- SYN1, SYN2, DLE in turn: the pointer moves at each write, and wraps
 abbrev pub synsWritten : Registers → ℕ → Registers

@@ -20,6 +20,10 @@ pub not-so : (b : Bool) → not b ≡ true → b ≡ false
 not-so true e = sym e
 not-so false e = refl
 
+pub is-so : (b : Bool) → not b ≡ false → b ≡ true
+is-so true e = refl
+is-so false e = absurd (true≢false e)
+
 pub neither : (a b : Bool) → (a || b) ≡ false → (a ≡ false) × (b ≡ false)
 neither true b e = absurd (true≢false e)
 neither false b e = (refl, e)
