@@ -64,8 +64,8 @@ typedef struct interfacer3_board {
     uint8_t receive_mask;   /* a 1 enables the receive interrupt of that channel */
 } interfacer3_board;
 
-/* A board and its channels. One of zeros is board 0 with the pins of its channels low: begin with INTERFACER3_RESET, or set the number
- * and call i3_reset, which leaves it. */
+/* A board and its channels. One of zeros is board 0 with channels that are out of range, and taken as just reset: begin with
+ * INTERFACER3_RESET, or set the number and call i3_reset, which leaves it. */
 typedef struct interfacer3 {
     interfacer3_board board;
     ins2651 channel[INTERFACER3_CHANNELS];

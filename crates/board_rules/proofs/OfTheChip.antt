@@ -8,10 +8,12 @@ use mathlib.Core.List.{List, [], _∷_}
 use lib.ListN.{length}
 use Rattle.ins2651_rules.specs.declared.Device.{Device}
 use Rattle.ins2651_rules.specs.Shape.{resetDevice}
+use Rattle.ins2651_rules.specs.Status.{Kept}
 use Rattle.ins2651_rules.specs.Ranges.{inRange}
 use Rattle.ins2651_rules.specs.Runs as chip
 use Rattle.ins2651_rules.specs.History.{clearsErrors, history, statusBy}
 use Rattle.ins2651_rules.proofs.FlagsStay.{Stay, flags-stay}
+use Rattle.ins2651_rules.proofs.InRange.{after-kept}
 use Rattle.ins2651_rules.proofs.ByHistory.{status-by-history}
 use Rattle.board_rules.specs.Ports.{Call, In, Reset, Deed, ResetsAll, unless, refusal, channelOf, selected, deed}
 use Rattle.board_rules.specs.Runs.{deviceAt, saidBy, said, Cabinet, next, after}
@@ -22,6 +24,10 @@ use Rattle.board_rules.proofs.Channels.{channel-is-a-chip, channel-afte
 pub channel-flags-stay : (w : Cabinet) (cs : List Call) (k : ℕ) → inRange (deviceAt (w .room) k) ≡ true → chip.nowhere clearsErrors (callsAt k w cs) ≡ true → Stay (deviceAt (w .room) k .flags) (deviceAt (after w cs .room) k .flags)
 channel-flags-stay w cs k h n =
     subst (λ (d : Device). Stay (deviceAt (w .room) k .flags) (d .flags)) (sym (channel-is-a-chip w cs k)) (flags-stay (deviceAt (w .room) k) (callsAt k w cs) h n)
+
+-- the stored status byte of a channel in range is what its other fields mean, after every run of board calls (P7)
+pub channel-kept : (w : Cabinet) (cs : List Call) (k : ℕ) → inRange (deviceAt (w .room) k) ≡ true → Kept (deviceAt (after w cs .room) k)
+channel-kept w cs k h = subst Kept (sym (channel-is-a-chip w cs k)) (after-kept (deviceAt (w .room) k) (callsAt k w cs) h)
 
 -- == status by history ==
 

@@ -242,10 +242,11 @@ module _ (cs : List Call) where
       ap₂ (λ (k : ℕ) (w : ℕ). record { refusal = k; values = w ∷ [] }) (answers-refusal now (Read address) ∙ n)
       (ap (λ (o : Answer). o .value) (does-read now (after-in resetDevice cs reset-in) address n) ∙ e)
 
-  pub status-there : readRegister now 1 .value ≡ statusBy (history resetDevice cs [])
-  unfolding readRegister
-  status-there = after-kept resetDevice cs reset-in ∙ status-is now (history resetDevice cs []) agrees-now
+  -- the stored byte is what the history says (P7) ..
+  pub stored-by-history : now .status ≡ statusBy (history resetDevice cs [])
+  stored-by-history = after-kept resetDevice cs reset-in ∙ status-is now (history resetDevice cs []) agrees-now
 
-  -- after any run from reset, a status read answers what the history says
+  -- .. and a status read answers it, after any run from reset
   pub status-by-history : said now (Read 1) ≡ record { refusal = 0; values = statusBy (history resetDevice cs []) ∷ [] }
-  status-by-history = read-says 1 (statusBy (history resetDevice cs [])) (omega arith) status-there
+  unfolding readRegister
+  status-by-history = read-says 1 (statusBy (history resetDevice cs [])) (omega arith) stored-by-history

@@ -25,7 +25,7 @@ use Rattle.ins2651_rules.specs.Shape.{resetDevice, withRegisters, withCo
 use Rattle.ins2651_rules.specs.Modes.{has, commandClears, transmitEnable, receiveEnable, sendFormat, receiveFormat}
 use Rattle.ins2651_rules.specs.Conditions.{mayStart, breakOn, listening, transmitEnabled}
 use Rattle.ins2651_rules.specs.Ranges.{mode1InRange, commandInRange, registersInRange, pinsInRange, flagsInRange, statusInRange, inRange}
-use Rattle.ins2651_rules.specs.Status.{statusByte}
+use Rattle.ins2651_rules.specs.Status.{statusByte, Kept}
 use Rattle.ins2651_rules.specs.Refusals.{mode1Refusal, modeRefusal, commandRefusal, writeRefusal, pinsRefusal}
 use Rattle.ins2651_rules.specs.RegisterReads.{readRegister}
 use Rattle.ins2651_rules.specs.RegisterWrites.{synsWritten, modesWritten, stored, unless, flagsCommanded, receiverCommanded, writeRegister}
@@ -33,7 +33,7 @@ use Rattle.ins2651_rules.specs.Pinning.{changes, pinned}
 use Rattle.ins2651_rules.specs.Ticks.{sent, transmitTick, noted, received, receiveTick}
 use Rattle.ins2651_rules.specs.Runs.{Call, Reset, Read, Write, SetPins, Transmit, Receive, Outputs, next, after}
 use Rattle.ins2651_rules.specs.Rows.{refusal}
-use Rattle.ins2651_rules.proofs.StatusKept.{Kept, built-kept, unshown-kept, read-kept, written-kept, pinned-kept, status-read-kept, sent-kept, heard-kept}
+use Rattle.ins2651_rules.proofs.StatusKept.{built-kept, unshown-kept, read-kept, written-kept, pinned-kept, status-read-kept, sent-kept, heard-kept}
 use Rattle.ins2651_rules.proofs.Settled.{settled-is, reset-in}
 use Rattle.ins2651_rules.proofs.Done.{does-read, does-write, does-pins, does-transmit, does-receive}
 use Rattle.ins2651_rules.proofs.Commands.{bit4-gone, accepted-stored}
@@ -276,5 +276,5 @@ pub status-kept : (d : Device) → inRange d ≡ true → Kept d
 status-kept d h = parts d h .status
 
 -- after any run of calls from any device in range the stored byte is the status that document 01 says
-pub after-kept : (d : Device) (cs : List Call) → inRange d ≡ true → after d cs .status ≡ statusByte (after d cs)
+pub after-kept : (d : Device) (cs : List Call) → inRange d ≡ true → Kept (after d cs)
 after-kept d cs h = status-kept (after d cs) (after-in d cs h)

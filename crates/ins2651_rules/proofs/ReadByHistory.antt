@@ -32,7 +32,7 @@ use Rattle.ins2651_rules.proofs.Done.{done-write, done-receive}
 use Rattle.ins2651_rules.proofs.Refused.{write-address}
 use Rattle.ins2651_rules.proofs.Leaves.{transmit-leaves, pins-leave, read-leaves}
 use Rattle.ins2651_rules.proofs.PointersMove.{pointers-move}
-use Rattle.ins2651_rules.proofs.ByHistory.{along-history, read-says, status-there}
+use Rattle.ins2651_rules.proofs.ByHistory.{along-history, read-says, stored-by-history}
 
 -- == what is read back ==
 
@@ -127,7 +127,7 @@ module _ (d : Device) (es : List Happened) (a : Shows d es) where
   mode-given (suc (suc m)) l e = absurd (omega arith)
 
   -- and any read what the history says, if a status read does
-  byte-given : readRegister d 1 .value ≡ statusBy es → (address : ℕ) → address ≤ 3 → readRegister d address .value ≡ byteBy address es
+  byte-given : d .status ≡ statusBy es → (address : ℕ) → address ≤ 3 → readRegister d address .value ≡ byteBy address es
   unfolding readRegister byteBy
   byte-given s zero l = ap (λ (b : Back). b .character) (a .holds)
   byte-given s (suc zero) l = s
@@ -176,4 +176,4 @@ pub read-by-history : (cs : List Call) (address : ℕ) → address ≤ 3
     → said (after resetDevice cs) (Read address) ≡ record { refusal = 0; values = byteBy address (history resetDevice cs []) ∷ [] }
 read-by-history cs address l =
     let a : Shows (after resetDevice cs) (history resetDevice cs []) = along-history Shows done-shows resetDevice cs [] reset-in (record { turn = refl; holds = refl }) in
-    read-says cs address (byteBy address (history resetDevice cs [])) l (byte-given (after resetDevice cs) (history resetDevice cs []) a (status-there cs) address l)
+    read-says cs address (byteBy address (history resetDevice cs [])) l (byte-given (after resetDevice cs) (history resetDevice cs []) a (stored-by-history cs) address l)

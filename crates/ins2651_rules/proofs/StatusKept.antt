@@ -23,14 +23,11 @@ use Rattle.ins2651_rules.specs.declared.Device.{Device}
 use Rattle.ins2651_rules.specs.Shape.{withStatus, statusKept, withParts, withFlags, withPins, withSender, withReceiver, pinLevels, withEmpty, withChange, withUnshown, statusIf}
 use Rattle.ins2651_rules.specs.Modes.{transmitEnable, sendFormat, receiveFormat}
 use Rattle.ins2651_rules.specs.Conditions.{mayStart, breakOn, listening, eitherMark, unread, vacant, mayWrite}
-use Rattle.ins2651_rules.specs.Status.{weigh, modemBits, errorBits, statusByte}
+use Rattle.ins2651_rules.specs.Status.{weigh, modemBits, errorBits, statusByte, Kept}
 use Rattle.ins2651_rules.specs.RegisterReads.{readHolding, readStatus}
 use Rattle.ins2651_rules.specs.RegisterWrites.{writeHolding}
 use Rattle.ins2651_rules.specs.Pinning.{changes, pinned}
 use Rattle.ins2651_rules.specs.Ticks.{sent, runsEmpty, transmitTick, noted, received, arrivals, receiveTick}
-
-abbrev pub Kept : Device → Type 0
-Kept d = d .status ≡ statusByte d
 
 -- the byte does not go by itself
 pub status-besides : (d : Device) (v : ℕ) → statusByte (withStatus d v) ≡ statusByte d

@@ -1,6 +1,7 @@
 -- The status byte, bit by bit, and the outputs: document 01, "Registers".
 -- Assumes nothing.
 use Prim.Native.Nat.{ℕ, _+_}
+use mathlib.Core.Path.{_≡_}
 use mathlib.Core.Bool.{Bool, cond, not}
 use Rattle.line_rules.specs.Sending.{bit, on}
 use Rattle.ins2651_rules.specs.declared.Device.{Device}
@@ -27,6 +28,10 @@ readyBits d = weigh (eitherMark d) 4 + weigh (unread d) 2 + weigh (mayWrite d) 1
 -- what the stored byte of a device must be; it goes by every other field and not by that one (P7)
 unfoldable pub statusByte : Device → ℕ
 statusByte d = modemBits d + errorBits (d .flags) + readyBits d
+
+-- the stored byte of a device is that
+abbrev pub Kept : Device → Type 0
+Kept d = d .status ≡ statusByte d
 
 -- TxRDY, RxRDY and TxEMT/DSCHG are the complements of status bits 0, 1 and 2; DTR and RTS of command bits 1 and 5
 unfoldable pub outputsOf : Device → OutputPins

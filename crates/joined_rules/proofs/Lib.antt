@@ -11,5 +11,6 @@ pub mod RunsRefused
 pub mod Standing
 pub mod Waits
 pub mod RunsCount
+pub mod RunsKept
 pub mod WaitsInTime
 pub mod WaitsComputed

@@ -21,7 +21,8 @@ use Rattle.link_rules.specs.Parts.{senderLater, receiverLater}
 use Rattle.ins2651_rules.specs.declared.Device.{Device}
 use Rattle.ins2651_rules.specs.Shape.{statusKept, deviceLater}
 use Rattle.ins2651_rules.specs.Ranges.{inRange, restsInRange}
-use Rattle.ins2651_rules.proofs.StatusKept.{Kept, kept-is, unshown-kept}
+use Rattle.ins2651_rules.specs.Status.{Kept}
+use Rattle.ins2651_rules.proofs.StatusKept.{kept-is, unshown-kept}
 use Rattle.ins2651_rules.proofs.InRange.{parts}
 use Rattle.ins2651_rules.proofs.RestsInRange.{rests-in-range}
 use Rattle.joined_rules.specs.declared.Pair.{Pair}

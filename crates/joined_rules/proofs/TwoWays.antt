@@ -12,8 +12,9 @@ use Rattle.way_rules.specs.Along.{wayTick}
 use Rattle.ins2651_rules.specs.declared.Flags.{Flags}
 use Rattle.ins2651_rules.specs.declared.Device.{Device}
 use Rattle.ins2651_rules.specs.Shape.{statusKept, withParts, withErrors}
+use Rattle.ins2651_rules.specs.Status.{Kept}
 use Rattle.ins2651_rules.specs.Ticks.{sent, transmitTick, received, noted, receivedBy, receiveTick}
-use Rattle.ins2651_rules.proofs.StatusKept.{Kept, kept-is, sent-kept, heard-kept}
+use Rattle.ins2651_rules.proofs.StatusKept.{kept-is, sent-kept, heard-kept}
 use Rattle.ins2651_rules.proofs.InRange.{status-kept}
 use Rattle.joined_rules.specs.declared.Pair.{Pair}
 use Rattle.joined_rules.specs.Joining.{joinedTick, joinedTicks}
