@@ -189,8 +189,9 @@ typedef struct ins2651_flags {
 } ins2651_flags;
 
 /* A device: any bytes will do. One that is out of range (docs/RANGES.md) is taken as one just reset. `status` is the status byte, which every
- * call keeps: a device whose byte is not what its other fields mean is out of range. So is one of zeros (static storage, memset, {0}): its
- * pins are low, which makes its byte 192. Begin with INS2651_RESET or ins2651_reset. */
+ * call keeps: behind a call a host may read it, as what ins2651_peek would answer, and is not to write it. A device whose byte is not what
+ * its other fields mean is out of range. So is one of zeros (static storage, memset, {0}): its pins are low, which makes its byte 192.
+ * Begin with INS2651_RESET or ins2651_reset. */
 typedef struct ins2651 {
     ins2651_registers registers;
     ins2651_input_pins pins;

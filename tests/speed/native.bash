@@ -1,4 +1,4 @@
-# Sourced by tests/speed/run and by the `run` of lent, board and pair: the proved code of a crate as native code. On x86-64 that is what was
+# Sourced by tests/speed/run and by the `run` of lent, board, pair and polls: the proved code of a crate as native code. On x86-64 that is what was
 # built. On another processor, or with SPEED_FROM_IR=1, its LLVM module is compiled for the machine's own: `from_ir` is 1 then.
 # They have `room`, a folder below target/ for what is made.
 

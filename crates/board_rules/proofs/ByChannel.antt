@@ -13,9 +13,8 @@ use borrow.Author.Tests.{eq-eqb, ne-eqb}
 use Rattle.line_rules.proofs.Choice.{either}
 use Rattle.ins2651_rules.specs.declared.Device.{Device}
 use Rattle.ins2651_rules.specs.declared.Answer.{Answer}
-use Rattle.ins2651_rules.specs.Shape.{resetDevice}
 use Rattle.ins2651_rules.specs.Modes.{has}
-use Rattle.ins2651_rules.specs.Ranges.{inRange, settled}
+use Rattle.ins2651_rules.specs.Ranges.{inRange}
 use Rattle.ins2651_rules.specs.Status.{weigh}
 use Rattle.ins2651_rules.specs.Looks.{peek}
 use Rattle.ins2651_rules.specs.RegisterReads.{readRegister}

@@ -2,7 +2,7 @@
 -- Assumes nothing.
 use Prim.Native.Nat.{ℕ, zero, suc, _+_, _*_, _≤_}
 use native.Mathlib.Omega.{arith}
-use mathlib.Core.Path.{_≡_, refl, sym, ap, ap₂, _∙_}
+use mathlib.Core.Path.{_≡_, refl}
 use mathlib.Core.Bool.{Bool, true, false, _&&_}
 use lib.Dec.{leb, eqb}
 use borrow.Author.Tests.{leb-true, eq-eqb, ne-eqb, eqb-true, eqb-false}
@@ -11,8 +11,9 @@ use Rattle.line_rules.proofs.Table.{both}
 use Rattle.ins2651_rules.specs.declared.Pins.{Pins}
 use Rattle.ins2651_rules.specs.declared.Flags.{Flags}
 use Rattle.ins2651_rules.specs.declared.Device.{Device}
-use Rattle.ins2651_rules.specs.Status.{weigh, modemBits, errorBits, readyBits, statusByte}
+use Rattle.ins2651_rules.specs.Status.{weigh, statusByte}
 use Rattle.ins2651_rules.specs.Ranges.{pinsInRange, flagsInRange, statusInRange}
+use Rattle.ins2651_rules.specs.Weights.{levelWeights, rightByWeights}
 
 high : (x w : ℕ) → x ≤ 1 → weigh (on x) w ≡ w * x
 high zero w l = let e : 0 ≡ w * 0 = omega arith in e
@@ -32,8 +33,7 @@ grown a b k m n p q = go (eqb a b) refl
     go true e = let h = eqb-true a b e in eq-eqb m n (omega (arith, p, q, h))
     go false e = ne-eqb m n (λ z. eqb-false a b e (omega (arith, p, q, z)))
 
-pub by-weights : (d : Device) → pinsInRange (d .pins) ≡ true → flagsInRange (d .flags) ≡ true
-    → eqb (d .status + (128 * d .pins .dsr + 64 * d .pins .dcd)) (192 + (32 * d .flags .framing + 16 * d .flags .overrun + 8 * d .flags .parity) + readyBits d) ≡ statusInRange d
+pub by-weights : (d : Device) → pinsInRange (d .pins) ≡ true → flagsInRange (d .flags) ≡ true → rightByWeights d ≡ statusInRange d
 unfolding statusByte
 by-weights d ps fs =
     let p : Pins = d .pins in
@@ -49,4 +49,4 @@ by-weights d ps fs =
     let h5 = high (f .framing) 32 (leb-true _ _ (o .0)) in
     let h4 = high (f .overrun) 16 (leb-true _ _ (o .1)) in
     let h3 = high (f .parity) 8 (leb-true _ _ (y .1)) in
-    grown (d .status) (statusByte d) (128 * p .dsr + 64 * p .dcd) _ _ refl (omega (arith, l7, l6, h5, h4, h3))
+    grown (d .status) (statusByte d) (levelWeights p) _ _ refl (omega (arith, l7, l6, h5, h4, h3))

@@ -3,12 +3,9 @@
 // The acts below the calls (the two ticks and what only counts, the reads and writes of registers, pins, status, outputs), the conditions and the
 // refusals check no range: they are for a caller that settles its device once (docs/RANGES.md).
 ghost use mathlib.Core.Path.{_≡_};
-ghost use mathlib.Core.Bool.{true, cond, _&&_};
-ghost use Prim.Native.Nat.{_≤_, _+_, _*_};
-ghost use lib.Dec.{eqb};
+ghost use mathlib.Core.Bool.{cond};
+ghost use Prim.Native.Nat.{_≤_};
 ghost use Rattle.line_rules.specs.Sending.{bit};
-ghost use Rattle.line_rules.specs.declared.Arrival.{Arrival};
-ghost use Rattle.link_rules.specs.Hearing.{arrives};
 ghost use Rattle.ins2651_rules.specs.Shape;
 ghost use Rattle.ins2651_rules.specs.Shape.{statusKept, resetDevice, sendCounted, hearCounted, deviceLater, refusedRead, refused};
 ghost use Rattle.ins2651_rules.specs.Modes;
@@ -18,7 +15,8 @@ ghost use Rattle.ins2651_rules.specs.Conditions.{dataSetReady, clearToSend, mod
 ghost use Rattle.ins2651_rules.specs.Status;
 ghost use Rattle.ins2651_rules.specs.Looks;
 ghost use Rattle.ins2651_rules.specs.Status.{modemBits, errorBits, readyBits, outputsOf};
-ghost use Rattle.ins2651_rules.specs.Ranges.{mode1InRange, commandInRange, registersInRange, pinsInRange, flagsInRange, statusInRange, inRange, restsInRange, settled};
+ghost use Rattle.ins2651_rules.specs.Ranges.{mode1InRange, commandInRange, registersInRange, pinsInRange, flagsInRange, inRange, restsInRange, settled};
+ghost use Rattle.ins2651_rules.specs.Weights.{levelWeights, errorWeights, rightByWeights, shownInRange};
 ghost use Rattle.ins2651_rules.specs.Refusals.{readRefusal, mode1Refusal, modeRefusal, commandRefusal, writeRefusal, pinsRefusal, levelRefusal};
 ghost use Rattle.ins2651_rules.specs.RegisterReads;
 ghost use Rattle.ins2651_rules.specs.RegisterReads.{readHolding, readStatus, readMode, readCommand, readRegister};
@@ -225,7 +223,7 @@ fn ready_bits(d: Device) -> u8
     weigh(either_mark(d), 4) + weigh(unread(d), 2) + weigh(may_write(d), 1)
 }
 
-// What the stored status byte of a device must be (P7).
+// What the stored status byte of a device must be (P7): of any byte that is stored, as no bit goes by that.
 fn status_byte(d: Device) -> u8
     ensures { λ r. ⌜ r ≡ statusKept d .status ⌝ }
 {
@@ -313,28 +311,28 @@ fn flags_in_range(f: Flags) -> bool
 
 // Levels and flags that are 0 or 1 are their own bits of the status: the two levels, ..
 fn level_weights(p: Pins) -> u32
-    ensures { λ r. ⌜ (r ≡ 128 * p .dsr + 64 * p .dcd) × (r ≤ 48960) ⌝ }
+    ensures { λ r. ⌜ (r ≡ levelWeights p) × (r ≤ 48960) ⌝ }
 {
     128 * p.dsr as u32 + 64 * p.dcd as u32
 }
 
 // .. and the three error flags.
 fn error_weights(f: Flags) -> u32
-    ensures { λ r. ⌜ (r ≡ 32 * f .framing + 16 * f .overrun + 8 * f .parity) × (r ≤ 14280) ⌝ }
+    ensures { λ r. ⌜ (r ≡ errorWeights f) × (r ≤ 14280) ⌝ }
 {
     32 * f.framing as u32 + 16 * f.overrun as u32 + 8 * f.parity as u32
 }
 
 // The stored byte is what the other fields mean, where the pins and flags are in range: a low level is a 1 of the status (P7).
 fn status_in_range(d: Device) -> bool
-    ensures { λ b. ⌜ b ≡ eqb (d .status + (128 * d .pins .dsr + 64 * d .pins .dcd)) (192 + (32 * d .flags .framing + 16 * d .flags .overrun + 8 * d .flags .parity) + readyBits d) ⌝ }
+    ensures { λ b. ⌜ b ≡ rightByWeights d ⌝ }
 {
     d.status as u32 + level_weights(d.pins) == 192 + error_weights(d.flags) + ready_bits(d) as u32
 }
 
 // What the status shows, and the byte itself.
 fn shown_in_range(d: Device) -> bool
-    ensures { λ b. ⌜ b ≡ (pinsInRange (d .pins) && flagsInRange (d .flags) && statusInRange d) ⌝ }
+    ensures { λ b. ⌜ b ≡ shownInRange d ⌝ }
 {
     let each = pins_in_range(d.pins) & flags_in_range(d.flags);
     if each {
@@ -846,13 +844,13 @@ fn received(d: Device, x: bool) -> Received
     link::receive(d.receiver, listening(d), receive_format(d.registers), x)
 }
 
-// How many characters arrive with it, 0 or 1.
+// How many characters arrive, 0 or 1.
 fn arrivals(heard: Heard) -> u8
-    ensures { λ n. ⌜ n ≡ bit (arrives (λ (a : Arrival). true) heard) ⌝ }
+    ensures { λ n. ⌜ n ≡ Ticks.arrivals heard ⌝ }
 {
     match heard {
         Heard::Nothing => 0,
-        Heard::Character(a) => 1,
+        Heard::Character(_) => 1,
     }
 }
 

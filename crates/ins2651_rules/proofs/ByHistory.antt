@@ -16,7 +16,6 @@ use Rattle.link_rules.specs.Parts.{dropped, emptied}
 use Rattle.link_rules.specs.Hearing.{arrives}
 use Rattle.line_rules.proofs.Choice.{either, each}
 use Rattle.link_rules.proofs.Halves.{full-after, unread-after, overrun-told}
-use Rattle.ins2651_rules.specs.declared.Registers.{Registers}
 use Rattle.ins2651_rules.specs.declared.Device.{Device}
 use Rattle.ins2651_rules.specs.declared.Answer.{Answer}
 use Rattle.ins2651_rules.specs.declared.Outcome.{Outcome}
@@ -27,7 +26,7 @@ use Rattle.ins2651_rules.specs.Status.{statusByte}
 use Rattle.ins2651_rules.specs.Ranges.{inRange, settled}
 use Rattle.ins2651_rules.specs.Refusals.{readRefusal, commandRefusal, writeRefusal}
 use Rattle.ins2651_rules.specs.RegisterReads.{readRegister}
-use Rattle.ins2651_rules.specs.RegisterWrites.{unless, synsWritten, modesWritten, writeRegister}
+use Rattle.ins2651_rules.specs.RegisterWrites.{unless, writeRegister}
 use Rattle.ins2651_rules.specs.Pinning.{changes, pinned}
 use Rattle.ins2651_rules.specs.Ticks.{sent, transmitTick, transmit, noted, received, receiveTick}
 use Rattle.ins2651_rules.specs.Runs.{Call, Reset, Read, Write, SetPins, Transmit, Receive, Outputs, next, after, said}

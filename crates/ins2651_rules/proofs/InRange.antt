@@ -23,14 +23,14 @@ use Rattle.ins2651_rules.specs.declared.Answer.{Answer}
 use Rattle.ins2651_rules.specs.declared.Ticked.{Ticked}
 use Rattle.ins2651_rules.specs.Shape.{resetDevice, withRegisters, withCommand, withEmpty, withChange}
 use Rattle.ins2651_rules.specs.Modes.{has, commandClears, transmitEnable, receiveEnable, sendFormat, receiveFormat}
-use Rattle.ins2651_rules.specs.Conditions.{mayStart, breakOn, listening, transmitEnabled}
+use Rattle.ins2651_rules.specs.Conditions.{mayStart, breakOn, listening}
 use Rattle.ins2651_rules.specs.Ranges.{mode1InRange, commandInRange, registersInRange, pinsInRange, flagsInRange, statusInRange, inRange}
 use Rattle.ins2651_rules.specs.Status.{statusByte, Kept}
 use Rattle.ins2651_rules.specs.Refusals.{mode1Refusal, modeRefusal, commandRefusal, writeRefusal, pinsRefusal}
 use Rattle.ins2651_rules.specs.RegisterReads.{readRegister}
 use Rattle.ins2651_rules.specs.RegisterWrites.{synsWritten, modesWritten, stored, unless, flagsCommanded, receiverCommanded, writeRegister}
 use Rattle.ins2651_rules.specs.Pinning.{changes, pinned}
-use Rattle.ins2651_rules.specs.Ticks.{sent, transmitTick, noted, received, receiveTick}
+use Rattle.ins2651_rules.specs.Ticks.{sent, runsEmpty, transmitTick, noted, received, receiveTick}
 use Rattle.ins2651_rules.specs.Runs.{Call, Reset, Read, Write, SetPins, Transmit, Receive, Outputs, next, after}
 use Rattle.ins2651_rules.specs.Rows.{refusal}
 use Rattle.ins2651_rules.proofs.StatusKept.{built-kept, unshown-kept, read-kept, written-kept, pinned-kept, status-read-kept, sent-kept, heard-kept}
@@ -195,7 +195,7 @@ module _ (d : Device) (p : In d) where
         pins = p .pins;
         sender = transmit-in (d .sender) (mayStart d) (breakOn d) (sendFormat (d .registers)) (p .sender) (λ e. format-in (d .registers .mode1) (has 32 (d .registers .mode2)));
         receiver = p .receiver;
-        flags = empty-in (orSet (sent d .drained && transmitEnabled d) (d .flags .empty)) (set-in (sent d .drained && transmitEnabled d) (d .flags .empty) (f .empty));
+        flags = empty-in (orSet (runsEmpty d (sent d)) (d .flags .empty)) (set-in (runsEmpty d (sent d)) (d .flags .empty) (f .empty));
         status = sent-kept d (p .status);
       }
 

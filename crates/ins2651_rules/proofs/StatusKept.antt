@@ -149,7 +149,7 @@ module _ (d : Device) (k : Kept d) where
       let o : Bool = received d x .overrun in
       let h : Heard = received d x .heard in
       let f : Flags = noted (d .flags) o h in
-      if-kept (on (arrivals (received d x))) (withReceiver d (received d x .half) f) (built-kept d (d .registers) (d .pins) (d .sender) (received d x .half) f)
+      if-kept (on (arrivals h)) (withReceiver d (received d x .half) f) (built-kept d (d .registers) (d .pins) (d .sender) (received d x .half) f)
       (λ e.
       let none : arrives (λ (a : Arrival). true) h ≡ false = sym (on-bit (arrives (λ (a : Arrival). true) h)) ∙ e in
       record {

@@ -18,11 +18,12 @@ use Rattle.ins2651_rules.specs.Status.{statusByte}
 abbrev pub withStatus : Device → ℕ → Device
 withStatus d v = record { registers = d .registers; pins = d .pins; sender = d .sender; receiver = d .receiver; flags = d .flags; status = v }
 
--- with the status byte that its other fields mean: no other definition puts the byte together (P7)
+-- with the status byte that its other fields mean: no other definition puts the byte together (P7). The byte of 0 that it is asked with makes devices
+-- of the same parts the same, and no bit goes by it
 abbrev pub statusKept : Device → Device
 statusKept d = withStatus d (statusByte (withStatus d 0))
 
--- a device of these parts, and of what d has besides
+-- a device of these parts, which takes the place of d; a field that is no part would be d's
 abbrev pub withParts : Device → Registers → Pins → SenderHalf → ReceiverHalf → Flags → Device
 withParts d r p s h f = statusKept (record { registers = r; pins = p; sender = s; receiver = h; flags = f; status = d .status })
 

@@ -25,7 +25,7 @@ errorBits f = weigh (on (f .framing)) 32 + weigh (on (f .overrun)) 16 + weigh (o
 abbrev pub readyBits : Device → ℕ
 readyBits d = weigh (eitherMark d) 4 + weigh (unread d) 2 + weigh (mayWrite d) 1
 
--- what the stored byte of a device must be; it goes by every other field and not by that one (P7)
+-- what the stored byte of a device must be; it does not go by that byte itself (P7)
 unfoldable pub statusByte : Device → ℕ
 statusByte d = modemBits d + errorBits (d .flags) + readyBits d
 

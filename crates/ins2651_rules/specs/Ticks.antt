@@ -57,13 +57,13 @@ abbrev pub noted : Flags → Bool → Heard → Flags
 noted f overrun Nothing = f
 noted f overrun (Character a) = withErrors f (orSet (a .framing) (f .framing)) (orSet overrun (f .overrun)) (orSet (a .parity) (f .parity))
 
--- how many characters arrive with it, 0 or 1
-abbrev pub arrivals : Received → ℕ
-arrivals r = bit (arrives (λ (a : Arrival). true) (r .heard))
+-- how many characters arrive, 0 or 1; a number, as computed cases ask for it at every tick
+abbrev pub arrivals : Heard → ℕ
+arrivals h = bit (arrives (λ (a : Arrival). true) h)
 
 -- the status changes where one arrives
 abbrev pub receivedBy : Device → Received → Device
-receivedBy d r = statusIf (on (arrivals r)) d (withReceiver d (r .half) (noted (d .flags) (r .overrun) (r .heard)))
+receivedBy d r = statusIf (on (arrivals (r .heard))) d (withReceiver d (r .half) (noted (d .flags) (r .overrun) (r .heard)))
 
 -- the tick of a device in range
 unfoldable pub receiveTick : Device → Bool → Device

@@ -230,7 +230,7 @@ pub fn unread(p: Pair, unit: Unit) -> bool
     }
 }
 
-// A wait of a pair in range: the way that comes to the unit is run until a character is unread there, and the other one for as long.
+// A wait by the ways, which is one of a pair in range: the way that comes to the unit is run until a character is unread there, and the other one for as long.
 fn wait_on(p: Pair, unit: Unit, limit: u16) -> Waited
     ensures { λ r. ⌜ r ≡ waitedAlong p unit limit ⌝ }
 {

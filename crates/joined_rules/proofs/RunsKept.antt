@@ -1,5 +1,5 @@
--- A joined tick, a run and a wait of a pair in range leave the status byte of each device what its other fields mean: request P7. So they do of any pair
--- where they do one tick or more, as they settle it first.
+-- A run and a wait of a pair in range leave the status byte of each device what its other fields mean, refused or not: request P7. So do joined ticks, one
+-- or more, of any pair, as they settle it first.
 -- Assumes nothing.
 use Prim.Native.Nat.{ℕ, _<_}
 use mathlib.Core.Path.{_≡_, refl, sym, ap, subst}

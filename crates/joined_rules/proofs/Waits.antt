@@ -138,7 +138,7 @@ module _ (p : Pair) (i : BothIn p) (u : Unit) where
       go unit.B = ap (λ (q : Pair). on (q .b .receiver .unread)) (two-ways k p i)
 
   -- the way that comes to the unit is run until one is unread, and the other as long
-  waits-along : (limit : ℕ) → waitedOn p u limit ≡ waitedAlong p u limit
+  pub waits-along : (limit : ℕ) → waitedOn p u limit ≡ waitedAlong p u limit
   waits-along limit =
       let same : joinedUntil p u limit ≡ untilUnread (endsTo u p) true limit (wayTo u p) =
       same-below limit (λ k. on (deviceAt (sideOf u) (joinedTicks k p) .receiver .unread)) (λ k. way.unread (wayTicks (endsTo u p) k (wayTo u p))) by-way in

@@ -43,7 +43,7 @@ fn devices() -> [Device; 16] {
     ]
 }
 
-// The device that is polled next.
+// The next of a row of numbers, by which devices are drawn.
 fn drawn(seed: u32) -> u32 {
     ((seed as u64 * 1664525 + 1013904223) % 4294967296) as u32
 }
@@ -67,7 +67,7 @@ fn polls(room: [Device; 16], n: u64) -> u32 {
 fn main() {
     let mut space = io::large_buffer();
     let batches = io::read_full(STDIN_FILENO, &mut space);
-    let sum = polls(devices(), (batches % 65536) as u64 * 65536);
+    let sum = polls(devices(), (batches % 65536) as u64 * 65536); // so that the count fits
     io::print_decimal(STDOUT_FILENO, sum as u64);
     io::write_all(STDOUT_FILENO, b"\n");
 }

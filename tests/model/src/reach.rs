@@ -347,52 +347,47 @@ impl Reach {
 
     /// A run of calls, made on the model.
     pub fn run(&mut self, lines: &[Line]) {
-        let mut lent = Lent::InRange(Chip::just_reset());
-        let mut garbage = None;
-        let mut watch = Watch::default();
-        let mut refused = None;
-        // The device where it was set just before.
-        let mut set = None;
+        let mut run = Run::new();
         for (place, line) in lines.iter().enumerate() {
             if let Line::Call(call) = line {
-                let before = lent.view();
-                let own = garbage.map(|_| lent.bytes());
-                let (refusal, answer) = lent.call(call);
-                self.count(call.name());
-                if lines.get(place + 1) == Some(&Line::Bytes) {
-                    let statuses = [before.status, lent.status()];
-                    status::count_moves(&mut self.often, call, statuses);
-                    if let Some(set) = &set {
-                        status::called_first(&mut self.often, call, refusal != 0, set);
-                    }
-                }
-                if *call == Call::InRange && answer == [0] {
-                    self.count("out of range seen");
-                }
-                let arrived = self.called(call, refusal, &before, &lent.view());
-                if let (Some(garbage), Some(own)) = (garbage, own) {
-                    self.called_first(garbage, call, refusal, &own);
-                }
-                refused = self.tallied(
-                    &mut watch,
-                    call,
-                    refusal,
-                    refused,
-                    [&before, &lent.view()],
-                    arrived,
-                );
+                let shown = lines.get(place + 1) == Some(&Line::Bytes);
+                self.ran_call(&mut run, call, shown);
             } else {
-                lent.answer(line);
-                if let Line::Device(..) = line {
-                    watch.set();
-                    refused = None;
-                }
+                run.lent.answer(line);
             }
-            (garbage, set) = match line {
-                Line::Device(garbage, _) => (*garbage, Some(lent.clone())),
-                _ => (None, None),
-            };
+            run.passed(line);
         }
+    }
+
+    /// A call of a run, and whether the device is shown behind it.
+    fn ran_call(&mut self, run: &mut Run, call: &Call, shown: bool) {
+        let before = run.lent.view();
+        let own = run.garbage.map(|_| run.lent.bytes());
+        let (refusal, answer) = run.lent.call(call);
+        let after = run.lent.view();
+        self.count(call.name());
+        if shown {
+            let statuses = [before.status, run.lent.status()];
+            status::count_moves(&mut self.often, call, statuses);
+            if let Some(set) = &run.set {
+                status::called_first(&mut self.often, call, refusal != 0, set);
+            }
+        }
+        if *call == Call::InRange && answer == [0] {
+            self.count("out of range seen");
+        }
+        let arrived = self.called(call, refusal, &before, &after);
+        if let (Some(garbage), Some(own)) = (run.garbage, own) {
+            self.called_first(garbage, call, refusal, &own);
+        }
+        run.refused = self.tallied(
+            &mut run.watch,
+            call,
+            refusal,
+            run.refused,
+            [&before, &after],
+            arrived,
+        );
     }
 
     /// The first call on a device out of range.
@@ -517,6 +512,40 @@ fn on_garbage(garbage: Garbage, call: &str) -> String {
 /// A look of which the bytes of a device out of range would say another number.
 fn not_its_own(garbage: Garbage, call: &str) -> String {
     on_garbage(garbage, call) + ", whose bytes have another number than 0"
+}
+
+/// A run of calls between two lines: the device, and what the next call is counted by.
+struct Run {
+    lent: Lent,
+    watch: Watch,
+    refused: Option<Refused>,
+    /// The device where it was set just before, and how it is out of range.
+    set: Option<Lent>,
+    garbage: Option<Garbage>,
+}
+
+impl Run {
+    fn new() -> Run {
+        Run {
+            lent: Lent::InRange(Chip::just_reset()),
+            watch: Watch::default(),
+            refused: None,
+            set: None,
+            garbage: None,
+        }
+    }
+
+    /// A line that was made; what came before a device that is set counts no more.
+    fn passed(&mut self, line: &Line) {
+        (self.garbage, self.set) = match line {
+            Line::Device(garbage, _) => {
+                self.watch.set();
+                self.refused = None;
+                (*garbage, Some(self.lent.clone()))
+            }
+            _ => (None, None),
+        };
+    }
 }
 
 /// A pair of chips that is watched.

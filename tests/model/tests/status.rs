@@ -513,32 +513,26 @@ fn bits_that_move_are_counted_where_they_are_shown() {
     }
 }
 
-#[test]
-fn ends_with_wrong_bytes_are_counted() {
+/// What is counted by a name of a call, shown, on a pair of which B's status byte alone is
+/// wrong: in bit 6, and in that it says unread, by which a wait must not go.
+fn reached_with_b_wrong(call: PairCall, name: &str) -> String {
     let mut wrong = wrong_in_bit_6();
     wrong[STATUS] |= 2;
     let device = PairLine::Device(Unit::B, wrong);
-    for (call, name, counts) in [
-        (
-            PairCall::Tick,
-            "tick with the status byte alone wrong",
-            "0 1",
-        ),
-        (
-            PairCall::Run(0),
-            "run of 0 with the status byte alone wrong",
-            "0 1",
-        ),
-        (
-            PairCall::Run(65_536),
-            "refused run with the status byte alone wrong",
-            "0 1",
-        ),
+    let mut reach = PairReach::of_pairs();
+    reach.run(&[device, PairLine::Call(call), PairLine::Bytes]);
+    counted(&reach.report().0, name)
+}
+
+#[test]
+fn ends_with_wrong_bytes_are_counted() {
+    for (call, name) in [
+        (PairCall::Tick, "tick"),
+        (PairCall::Run(0), "run of 0"),
+        (PairCall::Run(65_536), "refused run"),
     ] {
-        let mut reach = PairReach::of_pairs();
-        reach.run(&[device, PairLine::Call(call), PairLine::Bytes]);
-        let name = format!("{name}, by end");
-        assert_eq!(counted(&reach.report().0, &name), counts, "{name}");
+        let name = format!("{name} with the status byte alone wrong, by end");
+        assert_eq!(reached_with_b_wrong(call, &name), "0 1", "{name}");
     }
     for (number, what, counts) in [
         (1, "its unit's status byte alone wrong", "0 1"),
@@ -554,11 +548,9 @@ fn ends_with_wrong_bytes_are_counted() {
         ),
         (0, "the other's status byte alone wrong", "1 0"),
     ] {
-        let mut reach = PairReach::of_pairs();
-        let wait = PairLine::Call(PairCall::Wait(number, 9));
-        reach.run(&[device, wait, PairLine::Bytes]);
+        let wait = PairCall::Wait(number, 9);
         let name = format!("wait that uses up its limit with {what}, by unit");
-        assert_eq!(counted(&reach.report().0, &name), counts, "{name}");
+        assert_eq!(reached_with_b_wrong(wait, &name), counts, "{name}");
     }
 }
 

@@ -1,4 +1,4 @@
--- `ins2651::status_if` meets its contract. The byte does not go by itself.
+-- `ins2651::status_if` meets its contract. Put together, or as it was.
 -- Assumes nothing.
 use borrow.Author.Needs.{needs}
 use Rattle.ins2651.proofs.status_if.Statement.{statement}

@@ -31,6 +31,16 @@ struct Reach {
 }
 
 impl Reach {
+    fn new() -> Reach {
+        Reach {
+            inside: 0,
+            out_by: [0; DEVICE_BYTES],
+            wrong_bit: [0; 8],
+            wrong_bits: 0,
+            left_behind: [0; DEVICE_BYTES],
+        }
+    }
+
     /// A device out of range, and the byte by which it is no longer in range.
     fn out(&mut self, place: usize, bytes: &[u8; DEVICE_BYTES]) {
         match Lent::of_bytes(*bytes).wrong_status() {
@@ -59,6 +69,42 @@ impl Reach {
         let enough = |count: u32| count >= ENOUGH;
         (text, all.all(enough) && enough(self.wrong_bits))
     }
+
+    /// Each byte put a device out of range, but one that may have any number put none out.
+    fn check_bytes(&self) -> Result<(), String> {
+        let out = |place: &usize| self.out_by[*place] > 0;
+        if let Some(place) = (0..DEVICE_BYTES).find(|place| may_be_any(place) && out(place)) {
+            return Err(format!(
+                "byte {place}, which may have any number, put a device out of range"
+            ));
+        }
+        match (0..DEVICE_BYTES).find(|place| !may_be_any(place) && !out(place)) {
+            Some(place) => Err(format!("byte {place} put no device out of range")),
+            None => Ok(()),
+        }
+    }
+
+    /// Tells what was reached; the error is what was not.
+    fn tell(&self) -> Result<(), String> {
+        let (inside, out) = (self.inside, self.out_by.iter().sum::<u32>());
+        println!(
+            "random_ranges: {inside} devices in range and {out} out of it by one byte are told"
+        );
+        let (statuses, often) = self.statuses();
+        print!("{statuses}");
+        if !often {
+            return Err(format!(
+                "a kind of wrong status byte was told fewer than {ENOUGH} times"
+            ));
+        }
+        self.check_bytes()
+    }
+}
+
+/// Whether a byte may have any number.
+fn may_be_any(place: &usize) -> bool {
+    let tally = TALLIES.iter().any(|places| places.contains(place));
+    tally || ANY.contains(place) || PADDING.contains(place)
 }
 
 /// The devices of a run, each one in range, then spoilt, then with a wrong status byte, and
@@ -113,6 +159,18 @@ fn compare(driver: &Program, devices: &[[u8; DEVICE_BYTES]]) -> Result<(), Strin
     Ok(())
 }
 
+/// Compares all runs and tells what they reached; the error is how the driver differs, or
+/// what was not reached.
+fn compare_all(driver: &Program) -> Result<(), String> {
+    let mut reach = Reach::new();
+    for index in 0..RUNS {
+        compare(driver, &run(index, &mut reach)).map_err(|why| {
+            format!("the driver and the model differ in the run of seed {index}\n{why}")
+        })?;
+    }
+    reach.tell()
+}
+
 fn main() -> ExitCode {
     let driver = match Program::of_arguments() {
         Ok(driver) => driver,
@@ -121,44 +179,11 @@ fn main() -> ExitCode {
             return ExitCode::from(2);
         }
     };
-    let mut reach = Reach {
-        inside: 0,
-        out_by: [0; DEVICE_BYTES],
-        wrong_bit: [0; 8],
-        wrong_bits: 0,
-        left_behind: [0; DEVICE_BYTES],
-    };
-    for index in 0..RUNS {
-        if let Err(why) = compare(&driver, &run(index, &mut reach)) {
-            println!(
-                "random_ranges: the driver and the model differ in the run of seed {index}\n{why}"
-            );
-            return ExitCode::FAILURE;
+    match compare_all(&driver) {
+        Ok(()) => ExitCode::SUCCESS,
+        Err(why) => {
+            println!("random_ranges: {why}");
+            ExitCode::FAILURE
         }
     }
-    let (inside, out_by) = (reach.inside, reach.out_by);
-    let out: u32 = out_by.iter().sum();
-    println!("random_ranges: {inside} devices in range and {out} out of it by one byte are told");
-    let (statuses, often) = reach.statuses();
-    print!("{statuses}");
-    if !often {
-        println!("random_ranges: a kind of wrong status byte was told fewer than {ENOUGH} times");
-        return ExitCode::FAILURE;
-    }
-    let any = |place: &usize| {
-        let tally = TALLIES.iter().any(|places| places.contains(place));
-        tally || ANY.contains(place) || PADDING.contains(place)
-    };
-    if let Some(place) = (0..DEVICE_BYTES).find(|place| any(place) && out_by[*place] > 0) {
-        println!(
-            "random_ranges: byte {place}, which may have any number, put a device out of range"
-        );
-        return ExitCode::FAILURE;
-    }
-    let missing = |place: &usize| out_by[*place] == 0 && !any(place);
-    if let Some(place) = (0..DEVICE_BYTES).find(missing) {
-        println!("random_ranges: byte {place} put no device out of range");
-        return ExitCode::FAILURE;
-    }
-    ExitCode::SUCCESS
 }
