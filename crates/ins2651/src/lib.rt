@@ -15,8 +15,8 @@ ghost use Rattle.ins2651_rules.specs.Conditions.{dataSetReady, clearToSend, mod
 ghost use Rattle.ins2651_rules.specs.Status;
 ghost use Rattle.ins2651_rules.specs.Looks;
 ghost use Rattle.ins2651_rules.specs.Status.{modemBits, errorBits, readyBits, outputsOf};
-ghost use Rattle.ins2651_rules.specs.Ranges.{mode1InRange, commandInRange, registersInRange, pinsInRange, flagsInRange, inRange, restsInRange, settled};
-ghost use Rattle.ins2651_rules.specs.Weights.{levelWeights, errorWeights, rightByWeights, shownInRange};
+ghost use Rattle.ins2651_rules.specs.Ranges.{mode1InRange, commandInRange, registersInRange, pinsInRange, flagsInRange, inRange, shownInRange, restsInRange, settled};
+ghost use Rattle.ins2651_rules.specs.Weights.{levelWeights, errorWeights, rightByWeights};
 ghost use Rattle.ins2651_rules.specs.Refusals.{readRefusal, mode1Refusal, modeRefusal, commandRefusal, writeRefusal, pinsRefusal, levelRefusal};
 ghost use Rattle.ins2651_rules.specs.RegisterReads;
 ghost use Rattle.ins2651_rules.specs.RegisterReads.{readHolding, readStatus, readMode, readCommand, readRegister};
@@ -331,7 +331,7 @@ fn status_in_range(d: Device) -> bool
 }
 
 // What the status shows, and the byte itself.
-fn shown_in_range(d: Device) -> bool
+pub fn shown_in_range(d: Device) -> bool
     ensures { λ b. ⌜ b ≡ shownInRange d ⌝ }
 {
     let each = pins_in_range(d.pins) & flags_in_range(d.flags);
@@ -360,14 +360,13 @@ pub fn in_range(d: Device) -> bool
     link::receiver_in_range(d.receiver)
 }
 
-// The same of a device with no frame and no character under way, where that is known.
+// The rest, of a device with no frame and no character under way, where that is known.
 pub fn rests_in_range(d: Device) -> bool
     ensures { λ b. ⌜ b ≡ restsInRange d ⌝ }
 {
     registers_in_range(d.registers)
         & link::sender_rests_in_range(d.sender)
         & link::receiver_rests_in_range(d.receiver)
-        & shown_in_range(d)
 }
 
 fn clear_registers() -> Registers

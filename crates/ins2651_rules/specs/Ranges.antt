@@ -44,15 +44,13 @@ inRange d =
     && flagsInRange (d .flags)
     && statusInRange d
 
--- the same of a device with no frame and no character under way, where that is known (proofs/RestsInRange.antt)
+-- what the status shows by itself, and the byte ..
+abbrev pub shownInRange : Device → Bool
+shownInRange d = pinsInRange (d .pins) && flagsInRange (d .flags) && statusInRange d
+
+-- .. and the rest, of a device with no frame and no character under way, where that is known (proofs/RestsInRange.antt)
 unfoldable pub restsInRange : Device → Bool
-restsInRange d =
-    registersInRange (d .registers)
-    && pinsInRange (d .pins)
-    && senderRestsInRange (d .sender)
-    && receiverRestsInRange (d .receiver)
-    && flagsInRange (d .flags)
-    && statusInRange d
+restsInRange d = registersInRange (d .registers) && senderRestsInRange (d .sender) && receiverRestsInRange (d .receiver)
 
 -- the device itself, or the one just reset where it is out of range
 unfoldable pub settled : Device → Device

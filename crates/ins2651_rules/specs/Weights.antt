@@ -2,13 +2,12 @@
 -- in range it is `statusInRange`; no promise to a user speaks of it.
 -- Assumes nothing.
 use Prim.Native.Nat.{ℕ, _+_, _*_}
-use mathlib.Core.Bool.{Bool, _&&_}
+use mathlib.Core.Bool.{Bool}
 use lib.Dec.{eqb}
 use Rattle.ins2651_rules.specs.declared.Pins.{Pins}
 use Rattle.ins2651_rules.specs.declared.Flags.{Flags}
 use Rattle.ins2651_rules.specs.declared.Device.{Device}
 use Rattle.ins2651_rules.specs.Status.{readyBits}
-use Rattle.ins2651_rules.specs.Ranges.{pinsInRange, flagsInRange, statusInRange}
 
 abbrev pub levelWeights : Pins → ℕ
 levelWeights p = 128 * p .dsr + 64 * p .dcd
@@ -18,7 +17,3 @@ errorWeights f = 32 * f .framing + 16 * f .overrun + 8 * f .parity
 
 abbrev pub rightByWeights : Device → Bool
 rightByWeights d = eqb (d .status + levelWeights (d .pins)) (192 + errorWeights (d .flags) + readyBits d)
-
--- what the status shows by itself, and the byte
-abbrev pub shownInRange : Device → Bool
-shownInRange d = pinsInRange (d .pins) && flagsInRange (d .flags) && statusInRange d

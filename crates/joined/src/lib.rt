@@ -166,7 +166,9 @@ pub fn stands(p: Pair) -> bool
 {
     let ways = way_stands(p.a, p.b) & way_stands(p.b, p.a);
     if ways {
-        return ins2651::rests_in_range(p.a) & ins2651::rests_in_range(p.b);
+        return ins2651::rests_in_range(p.a)
+            & ins2651::shown_in_range(p.a)
+            & (ins2651::rests_in_range(p.b) & ins2651::shown_in_range(p.b));
     }
     false
 }

@@ -20,7 +20,7 @@ use Rattle.way_rules.proofs.StandsExactly.{unchanged-stands}
 use Rattle.link_rules.specs.Parts.{senderLater, receiverLater}
 use Rattle.ins2651_rules.specs.declared.Device.{Device}
 use Rattle.ins2651_rules.specs.Shape.{statusKept, deviceLater}
-use Rattle.ins2651_rules.specs.Ranges.{inRange, restsInRange}
+use Rattle.ins2651_rules.specs.Ranges.{inRange, shownInRange, restsInRange}
 use Rattle.ins2651_rules.specs.Status.{Kept}
 use Rattle.ins2651_rules.proofs.StatusKept.{kept-is, unshown-kept}
 use Rattle.ins2651_rules.proofs.InRange.{parts}
@@ -78,7 +78,7 @@ module _ (p : Pair) (x y : Bool) (there : x ≡ wayStands (endsOf (p .a) (p .b))
   unfolding stands
   all-of = ap₂ (λ (s r : Bool). s && r && inRange (p .a) && inRange (p .b)) there back
 
-  pub stands-in : (x && y) ≡ true → (restsInRange (p .a) && restsInRange (p .b)) ≡ stands p
+  pub stands-in : (x && y) ≡ true → (restsInRange (p .a) && shownInRange (p .a) && (restsInRange (p .b) && shownInRange (p .b))) ≡ stands p
   stands-in w =
       let t = both x y w in
       let s = under-way-none (endsOf (p .a) (p .b)) (wayOf (p .a) (p .b)) (sym there ∙ t .0) in
