@@ -1,6 +1,8 @@
 // The eight-channel board lent to a C host, with the room of its channels: a call decides by value what it comes to, stores the board, and
 // lends the channel that it is about to the chip's own call, where it stands. include/interfacer3.h is C's view.
 // Whatever bytes the host lends, and however many channels, the call is what `board_rules` says of them.
+#![tactic(auto)]
+
 ghost use Rattle.std.specs.Prelude.{◌≡◌, ◌≤◌, ◌*◌};
 ghost use Rattle.board_rules.specs.Ports;
 ghost use Rattle.board_rules.specs.Ports.{In, Out, Reset, Pins, Transmit, Receive, Outputs, Interrupts};
@@ -13,7 +15,7 @@ use ins2651_rules::Device;
 // What a call comes to before a channel is looked at: the board after it, and its answer where it ends there; else the channel that it is
 // about, where it is about one alone.
 #[repr(C)]
-#[derive(Drop)]
+#[derive(Clone, Copy)]
 pub struct Plan {
     pub answer: u16,
     pub channel: usize,

@@ -1,5 +1,7 @@
 // The fields of a line of text: document 01, "The session text". A line comes byte by byte and is never stored: what its
 // fields hold so far is all that is kept. Every call takes any number in any field, and none is refused.
+#![tactic(auto)]
+
 ghost use Rattle.std.specs.Prelude.{◌≡◌};
 ghost use Rattle.fields.specs.Parted;
 ghost use Rattle.fields.specs.Reading;
@@ -7,7 +9,7 @@ ghost use Rattle.fields.specs.Reading;
 // A field, read both ways: its number, 4294967295 where it is not 1 to 9 digits, and its letter, 0 where it is not one
 // byte. Its size is how many bytes it has, and 10 says ten or more.
 #[repr(C)]
-#[derive(Drop)]
+#[derive(Clone, Copy)]
 pub struct Field {
     pub number: u32,
     pub letter: u8,
@@ -17,7 +19,7 @@ pub struct Field {
 // The fields of a line so far: the last one, and those before it, as many as `count` says. Five or more before the last
 // are counted as 5, and only the first four of them are kept.
 #[repr(C)]
-#[derive(Drop)]
+#[derive(Clone, Copy)]
 pub struct Fields {
     pub count: u8,
     pub first: Field,

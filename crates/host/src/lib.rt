@@ -2,6 +2,8 @@
 // Whatever bytes the host lends, the call is what `ins2651_rules` says of them; a refused call hands them back as they were.
 // A call makes the device sound once and then acts on it where it stands. For speed one function asks for the range, each act by
 // value has one caller in place, and a tick that only counts stores no more than its tally (P4, docs/DECISIONS.md).
+#![tactic(auto)]
+
 ghost use Rattle.std.specs.Prelude.{◌≡◌};
 ghost use Rattle.line_rules.specs.Sending.{bit, on};
 ghost use Rattle.ins2651_rules.specs.Shape.{reset_device, send_counted, hear_counted, device_later};
@@ -23,7 +25,7 @@ use ins2651_rules::{Answer, Device};
 
 // An act by value: its answer as one number, and the device after it.
 #[repr(C)]
-#[derive(Drop)]
+#[derive(Clone, Copy)]
 pub struct Reply {
     pub answer: u16,
     pub device: Device,

@@ -2,6 +2,8 @@
 // Every call takes any number in any field. A device out of range is taken as one just reset; a refused call hands it back as given.
 // The acts below the calls (the two ticks and what only counts, the reads and writes of registers, pins, status, outputs), the conditions and the
 // refusals check no range: they are for a caller that settles its device once (docs/RANGES.md).
+#![tactic(auto)]
+
 ghost use Rattle.std.specs.Prelude.{◌≡◌, cond, ◌≤◌};
 ghost use Rattle.line_rules.specs.Sending.{bit};
 ghost use Rattle.ins2651_rules.specs.Shape;

@@ -1,10 +1,12 @@
 // The INS2651 by its sheet: the device and its parts. specs/ says what each call does to it, proofs/ what that comes to over runs of calls;
 // the calls themselves are `ins2651`'s. No code stands here, so that a wrong definition is refused without proving the calls again.
+#![tactic(auto)]
+
 use link_rules::{ReceiverHalf, SenderHalf};
 
 // `accepted` is 1 once a mode 1 was accepted since reset; `modes` and `syns` are the two pointers.
 #[repr(C)]
-#[derive(Drop)]
+#[derive(Clone, Copy)]
 pub struct Registers {
     pub mode1: u8,
     pub mode2: u8,
@@ -19,7 +21,7 @@ pub struct Registers {
 
 // The levels of the three modem inputs.
 #[repr(C)]
-#[derive(Drop)]
+#[derive(Clone, Copy)]
 pub struct Pins {
     pub dsr: u8,
     pub dcd: u8,
@@ -28,7 +30,7 @@ pub struct Pins {
 
 // The three error flags, the empty-mark and the change-mark.
 #[repr(C)]
-#[derive(Drop)]
+#[derive(Clone, Copy)]
 pub struct Flags {
     pub framing: u8,
     pub overrun: u8,
@@ -39,7 +41,7 @@ pub struct Flags {
 
 // `status` is the status byte, which every call keeps (P7).
 #[repr(C)]
-#[derive(Drop)]
+#[derive(Clone, Copy)]
 pub struct Device {
     pub registers: Registers,
     pub pins: Pins,
@@ -51,7 +53,7 @@ pub struct Device {
 
 // What a register read answers.
 #[repr(C)]
-#[derive(Drop)]
+#[derive(Clone, Copy)]
 pub struct Answer {
     pub refusal: u8,
     pub value: u8,
@@ -60,7 +62,7 @@ pub struct Answer {
 
 // What a register write, a pin call or a receive tick answers.
 #[repr(C)]
-#[derive(Drop)]
+#[derive(Clone, Copy)]
 pub struct Outcome {
     pub refusal: u8,
     pub device: Device,
@@ -68,7 +70,7 @@ pub struct Outcome {
 
 // What a transmit tick answers: the level sent.
 #[repr(C)]
-#[derive(Drop)]
+#[derive(Clone, Copy)]
 pub struct Ticked {
     pub level: u8,
     pub device: Device,
@@ -76,7 +78,7 @@ pub struct Ticked {
 
 // The levels of the five outputs.
 #[repr(C)]
-#[derive(Drop)]
+#[derive(Clone, Copy)]
 pub struct OutputPins {
     pub txrdy: u8,
     pub rxrdy: u8,

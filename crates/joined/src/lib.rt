@@ -2,6 +2,8 @@
 // Every call takes any number in any field. A joined tick is never refused; a run of more than 65535 is, with 16, and a wait with a limit
 // above 65535, with 21: both hand the pair back as given. A device out of range is taken as one just reset, but by a run of 0 and a wait that
 // spends none, which change nothing; `unread` and `stands` say no of it, and `later` asks for no range.
+#![tactic(auto)]
+
 ghost use Rattle.std.specs.Prelude.{◌≡◌, ◌&&◌};
 ghost use Rattle.ins2651_rules.specs.Ranges.{in_range};
 ghost use Rattle.joined_rules.specs.Joining;

@@ -3,3 +3,4 @@
 // what that replied (proofs/Lent.antt); a spared one looks first, and stores nothing where that would change nothing (proofs/Spares.antt);
 // one that decides looks first, and does one of two lent calls (proofs/Decides.antt). No code stands here: a crate joins by naming its
 // struct and its reply (proofs/Lendable.antt).
+#![tactic(auto)]

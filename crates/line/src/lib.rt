@@ -1,5 +1,7 @@
 // What a frame is on the line, and what arrives from it: document 01, "Sending" and "Receiving".
 // Every call takes any number in any field: `line_rules` says what each answers, inside the range and outside.
+#![tactic(auto)]
+
 ghost use Rattle.std.specs.Prelude.{◌≡◌, suc, ◌-◌, ◌*◌, ◌/◌, ◌%◌, ◌^◌, ◌<◌, ◌≤◌, ◌==◌};
 ghost use Rattle.line_rules.specs.Sending;
 ghost use Rattle.line_rules.specs.Sending.{bit, parity_bits, before_stop, frame_length, stop_sample, parity_bit, bit_at, data_level, parity_level, or_set};

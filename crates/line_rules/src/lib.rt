@@ -1,10 +1,11 @@
 // The line by document 01, "Sending" and "Receiving": a character's format, the receiver and what arrives. specs/ says what a frame is and what
 // a sample does, proofs/ what that comes to; the calls themselves are `line`'s. No code stands here, so that a wrong definition is refused
 // without proving the calls again.
+#![tactic(auto)]
 
 // How a character is sent: factor F, length n, parity (0: none), even (0: odd), stop ticks S.
 #[repr(C)]
-#[derive(Drop)]
+#[derive(Clone, Copy)]
 pub struct Format {
     pub factor: u8,
     pub length: u8,
@@ -16,7 +17,7 @@ pub struct Format {
 // The receiver between two samples: phase 0 waits for a 1, 1 searches for a 0, 2 has a character under way. That one has
 // `countdown` ticks before its next look, that look's number, the value so far and 1 where its parity was wrong.
 #[repr(C)]
-#[derive(Drop)]
+#[derive(Clone, Copy)]
 pub struct Receiver {
     pub phase: u8,
     pub countdown: u8,
@@ -27,16 +28,16 @@ pub struct Receiver {
 
 // The tallies of request P4, by the sheet's names of the two clocks: ticks of the transmit clock since reset ..
 #[repr(C)]
-#[derive(Drop)]
+#[derive(Clone, Copy)]
 pub struct TxC(pub u32);
 
 // .. and ticks of the receive clock. Two types, so that one is never handed over as the other.
 #[repr(C)]
-#[derive(Drop)]
+#[derive(Clone, Copy)]
 pub struct RxC(pub u32);
 
 // A character as it arrives: whether its parity was wrong, whether its stop sample was 0, and the receive tally after that sample's tick.
-#[derive(Drop)]
+#[derive(Clone, Copy)]
 pub struct Arrival {
     pub value: u8,
     pub parity: bool,
@@ -44,14 +45,14 @@ pub struct Arrival {
     pub stamp: RxC,
 }
 
-#[derive(Drop)]
+#[derive(Clone, Copy)]
 pub enum Heard {
     Nothing,
     Character(Arrival),
 }
 
 // What one sample leaves, and what it brought.
-#[derive(Drop)]
+#[derive(Clone, Copy)]
 pub struct Sampled {
     pub next: Receiver,
     pub heard: Heard,

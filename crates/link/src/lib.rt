@@ -1,5 +1,7 @@
 // The two double-buffered halves that every chip has: document 01, "Sending" and "Receiving".
 // Every call takes any number in any field: `link_rules` says what each answers, inside the range and outside.
+#![tactic(auto)]
+
 ghost use Rattle.std.specs.Prelude.{◌≡◌, suc, ◌+◌, ◌-◌, ◌^◌, false, nat_lt};
 ghost use Rattle.line_rules.specs.Sending.{parity_bits};
 ghost use Rattle.link_rules.specs.Parts.{no_format, no_frame, idle_sender, loaded, unloaded, sender_later, started, idle_receiver, dropped, emptied, receiver_later};

@@ -1,11 +1,13 @@
 // The two double-buffered halves that every chip has, by document 01, "Sending" and "Receiving". specs/ says what a tick of each does, proofs/
 // what that comes to; the calls themselves are `link`'s. No code stands here, so that a wrong definition is refused without proving the
 // calls again.
+#![tactic(auto)]
+
 use line_rules::{Format, Heard, Receiver, RxC, TxC};
 
 // A frame under way: its character, the format that it began with, and the place of its next tick. All 0: none.
 #[repr(C)]
-#[derive(Drop)]
+#[derive(Clone, Copy)]
 pub struct Frame {
     pub character: u8,
     pub format: Format,
@@ -15,7 +17,7 @@ pub struct Frame {
 // The sending half: the frame under way, the character that waits (where `full` is 1), and the guard that a break left; the transmit tally after
 // the first tick of its last frame, and the tally itself (P4).
 #[repr(C)]
-#[derive(Drop)]
+#[derive(Clone, Copy)]
 pub struct SenderHalf {
     pub frame: Frame,
     pub holding: u8,
@@ -28,7 +30,7 @@ pub struct SenderHalf {
 // The receiving half: the receiver, the format of the character under way, and the character last held, unread or not, with its stamp, which is
 // the receive tally after its stop sample's tick; and the tally itself (P4).
 #[repr(C)]
-#[derive(Drop)]
+#[derive(Clone, Copy)]
 pub struct ReceiverHalf {
     pub state: Receiver,
     pub format: Format,
@@ -39,7 +41,7 @@ pub struct ReceiverHalf {
 }
 
 // What a transmit tick leaves and sends; whether it was a frame's first; whether it ended a frame with nothing waiting.
-#[derive(Drop)]
+#[derive(Clone, Copy)]
 pub struct Sent {
     pub half: SenderHalf,
     pub level: bool,
@@ -48,7 +50,7 @@ pub struct Sent {
 }
 
 // What a receive tick leaves and brings, and whether that found the holding register unread.
-#[derive(Drop)]
+#[derive(Clone, Copy)]
 pub struct Received {
     pub half: ReceiverHalf,
     pub heard: Heard,

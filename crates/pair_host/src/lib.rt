@@ -1,6 +1,8 @@
 // A pair of joined devices lent to a C host: each call finds it, advances it in place and answers one number.
 // Whatever bytes the host lends, the call is what `joined_rules` says of them; a refused run or wait hands them back as they were. For
 // speed a wait that leaves the pair as it is stores nothing, and a run or a wait of a pair that stands only counts.
+#![tactic(auto)]
+
 ghost use Rattle.std.specs.Prelude.{◌≡◌};
 ghost use Rattle.joined_rules.specs.Joining;
 ghost use Rattle.joined_rules.specs.Waiting;
@@ -11,7 +13,7 @@ use joined_rules::{Pair, Unit};
 
 // An act by value: its answer as one number, and the pair after it.
 #[repr(C)]
-#[derive(Drop)]
+#[derive(Clone, Copy)]
 pub struct PairReply {
     pub answer: u16,
     pub pair: Pair,
@@ -19,7 +21,7 @@ pub struct PairReply {
 
 // A wait by value: its refusal and count as one number, and the pair after it.
 #[repr(C)]
-#[derive(Drop)]
+#[derive(Clone, Copy)]
 pub struct WaitReply {
     pub answer: u32,
     pub pair: Pair,

@@ -1,11 +1,13 @@
 // The records of a session: document 01, "The session text", and request P12's wait. A line's fields make a record, or have no known shape.
+#![tactic(auto)]
+
 ghost use Rattle.std.specs.Prelude.{◌≡◌};
 ghost use Rattle.records.specs.Records;
 
 use fields::{Field, Fields};
 
 // A line's record. A unit is its letter, A or B.
-#[derive(Drop)]
+#[derive(Clone, Copy)]
 pub enum Record {
     Write(u8, u8, u8),
     Read(u8, u8),

@@ -1,5 +1,7 @@
 // Lines of a session's output: document 01, "The session text", request P4's read of address 0 and request P12's wait. Fields are parted by one
 // tab, and numbers are decimal without leading zeros.
+#![tactic(auto)]
+
 ghost use Rattle.std.specs.Prelude.{◌≡◌, [], ◌∷◌, ◌+◌, ◌≤◌, ◌<◌, leb, length};
 ghost use Rattle.rows.specs.Text;
 ghost use Rattle.rows.specs.Text.{Put};
@@ -8,7 +10,7 @@ use line_rules::RxC;
 
 // A line of the output: none, R with unit, address and value, R with unit, address 0, value and the receive tally of its arrival
 // (request P4), B with unit and count (request P12), E with line number and refusal, N with lines and refusals.
-#[derive(Drop)]
+#[derive(Clone, Copy)]
 pub enum Row {
     Nothing,
     Value(u8, u8, u8),

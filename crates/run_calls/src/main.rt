@@ -1,9 +1,11 @@
 // Calls of the chip drawn at random, and what each answered in one sum, for comparison with the independent model.
+#![tactic(auto)]
+
 use ins2651_rules::Device;
 use libc::STDOUT_FILENO;
 
 // A run of calls: the device, what is drawn next, how many calls, how many refused, and a sum over the answers.
-#[derive(Drop)]
+#[derive(Clone, Copy)]
 struct Session {
     device: Device,
     seed: u32,

@@ -1,5 +1,7 @@
 // Document 01's bench cases that are run, on one device and on two joined, and recordings drawn at random, read by the receiver; all
 // written out for comparison.
+#![tactic(auto)]
+
 use ins2651_rules::Device;
 use joined_rules::Pair;
 use libc::STDOUT_FILENO;
@@ -7,7 +9,7 @@ use line_rules::{Arrival, Format, Heard, Receiver, RxC};
 
 // A recording while it is read: the samples so far, which are the receive tally, the characters that came and a sum over them. `list` writes
 // out each.
-#[derive(Drop)]
+#[derive(Clone, Copy)]
 struct Bench {
     receiver: Receiver,
     samples: RxC,

@@ -1,10 +1,12 @@
 // Polls of the status of settled devices, by value: 65,536 for each byte of the input, spread over sixteen devices. It writes the sum of what
 // they answered. tests/speed/polls/run measures it.
+#![tactic(auto)]
+
 use ins2651_rules::Device;
 use libc::{STDIN_FILENO, STDOUT_FILENO};
 
 // What was polled: the sum of the answers, and what draws the next device.
-#[derive(Drop)]
+#[derive(Clone, Copy)]
 struct Polled {
     sum: u32,
     seed: u32,

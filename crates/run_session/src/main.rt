@@ -1,6 +1,8 @@
 // Document 01's session program: reads a session from standard input and writes what it answers. What a session is and
 // what it answers is `session`'s; here bytes are only read and written. How the session goes on is stated where no read and
 // no write failed; what a system call moves stays outside.
+#![tactic(auto)]
+
 ghost use Rattle.std.specs.Prelude.{◌≡◌, true, false, length, take};
 ghost use Rattle.io.specs.Counts.{clamp_len};
 ghost use Rattle.rows.specs.Text.{Spoke};
@@ -11,7 +13,7 @@ use session_rules::Session;
 
 // The session so far: whether more of the input is wanted, whether the rest stays unread (document 01, "The session text"), and
 // whether reading or writing failed.
-#[derive(Drop)]
+#[derive(Clone, Copy)]
 struct Went {
     session: Session,
     more: bool,
@@ -20,7 +22,7 @@ struct Went {
 }
 
 // One call of `feed`: the session after it, how many bytes it took, and whether its text was written.
-#[derive(Drop)]
+#[derive(Clone, Copy)]
 struct Took {
     session: Session,
     used: usize,

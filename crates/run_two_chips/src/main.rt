@@ -1,4 +1,6 @@
 // Two chips joined, to copy: a character goes from unit a to unit b. README.md shows these lines from `use` on.
+#![tactic(auto)]
+
 use joined_rules::{Pair, Unit};
 use libc::STDOUT_FILENO;
 

@@ -1,6 +1,8 @@
 // A session: document 01, "The session text", and requests P4 and P12, over two joined devices. The input comes in pieces of any size: `begin`,
 // `feed` for each piece, `finish`. Every call takes any number in any field, and none is refused: a refused line is
 // answered in the text.
+#![tactic(auto)]
+
 ghost use Rattle.std.specs.Prelude.{◌≡◌, ◌+◌, ◌<◌, ◌≤◌, length, take};
 ghost use Rattle.rows.specs.Text.{Put, Spoke};
 ghost use Rattle.ins2651_rules.specs.RegisterWrites;
@@ -14,7 +16,7 @@ use rows::Row;
 use session_rules::{Reply, Said, Session};
 
 // The session after a line, and where the text ends.
-#[derive(Drop)]
+#[derive(Clone, Copy)]
 pub struct Turn {
     pub session: Session,
     pub at: usize,
@@ -22,7 +24,7 @@ pub struct Turn {
 
 // What a piece did: the session after it, how many of its bytes were taken, how many bytes of text stand in the buffer.
 #[repr(C)]
-#[derive(Drop)]
+#[derive(Clone, Copy)]
 pub struct Fed {
     pub session: Session,
     pub used: usize,

@@ -1,6 +1,8 @@
 // One way of a line: a sending half, the receiving half at the other end, and the flags that they set; and many ticks of it at once where they
 // only count. Document 01, "Sending" and "Receiving", by joined ticks.
 // Every call takes any number in any field: `way_rules` says what each answers, inside the range and outside.
+#![tactic(auto)]
+
 ghost use Rattle.std.specs.Prelude.{◌≡◌, ◌+◌, ◌-◌, ◌*◌, ◌%◌, ◌^◌, ◌<◌, ◌≤◌, false, if◌then◌else◌, nat_eq};
 ghost use Rattle.line_rules.specs.Sending.{bit, half, level};
 ghost use Rattle.line_rules.specs.Receiving.{under, stop_look, look_at};

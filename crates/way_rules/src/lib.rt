@@ -1,12 +1,14 @@
 // One way of a line, by document 01, "Sending" and "Receiving": the sending half at one end and the receiving half at the other. specs/ says
 // what a tick of it does, how many bring a character, which ticks only count and how far a frame can be followed at once; proofs/ that what is done at once is what as many
 // ticks do. The calls themselves are `way`'s. No code stands here, so that a wrong definition is refused without proving the calls again.
+#![tactic(auto)]
+
 use line_rules::Format;
 use link_rules::{ReceiverHalf, SenderHalf};
 
 // What stays while nothing but ticks is done: whether a frame or a break may start, whether break is on, whether transmit is enabled, whether
 // receive is on, and the formats in which frames begin at both ends.
-#[derive(Drop)]
+#[derive(Clone, Copy)]
 pub struct Ends {
     pub ready: bool,
     pub broken: bool,
@@ -17,7 +19,7 @@ pub struct Ends {
 }
 
 // The flags of what arrives.
-#[derive(Drop)]
+#[derive(Clone, Copy)]
 pub struct Faults {
     pub framing: u8,
     pub overrun: u8,
@@ -25,7 +27,7 @@ pub struct Faults {
 }
 
 // What ticks move: the two halves, the empty-mark of the end that sends and the flags of the end that receives.
-#[derive(Drop)]
+#[derive(Clone, Copy)]
 pub struct Way {
     pub sender: SenderHalf,
     pub receiver: ReceiverHalf,
@@ -34,7 +36,7 @@ pub struct Way {
 }
 
 // A way some ticks on.
-#[derive(Drop)]
+#[derive(Clone, Copy)]
 pub struct Moved {
     pub way: Way,
     pub ticks: u16,
