@@ -1,11 +1,9 @@
 -- `line::parity::odd` meets its contract. The table's rule is tested over all 256 entries at once, and carried to each byte by one law.
--- Assumes nothing.
-use Rattle.std.proofs.Common.{◌≡◌, ℕ, ◌<◌, Bool, true, eqb, List, length, get_or, ap, ◌∙◌, zero-add, arith, rules, eqb-true}
+use Rattle.std.proofs.Common.{◌≡◌, ℕ, ◌<◌, Bool, true, eqb, List, length, get_or, ap, ◌∙◌, zero-add, arith, eqb-true}
 use Rattle.line_rules.specs.Sending.{bit, odd_ones}
 use Rattle.line_rules.proofs.Bits.{is_one}
 use Rattle.line_rules.proofs.Table.{every, entry}
-use Rattle.line.proofs.parity.odd.Statement.{statement}
-use Rattle.line.proofs.parity.odd.Tie as tie
+use Rattle.line.proofs.parity.odd.Goals as goal
 
 -- entry c is 1 where c has an odd number of ones, and 0 elsewhere
 right : ℕ → ℕ → Bool
@@ -17,11 +15,8 @@ unfolding right
 ruled t c h l e =
     ap (λ (x : ℕ). eqb x 1) (eqb-true _ _ (entry right t 0 c (omega arith) e) ∙ ap (λ (k : ℕ). bit (odd_ones 8 k)) (zero-add c)) ∙ is_one (odd_ones 8 c)
 
-returns : tie.Need-returns
+pub returns : goal.returns
 unfolding right odd_ones
 returns c =
     let byte : c.args.c < 256 = c.ranges.c.fits in
     simp (ruled, byte)
-
-pub odd_spec : {M : Type 1} → statement M
-odd_spec = tie.close (tie.spec (λ c. search rules) returns)
