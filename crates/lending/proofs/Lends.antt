@@ -5,8 +5,8 @@ use mathlib.Core.Path.{◌≡◌, refl, ap}
 use Prim.Native.Nat.{ℕ, zero, ◌<◌, ◌^◌}
 use mathlib.Core.List.{[], ◌∷◌, List}
 use seplogic.Ra.Ura.{Ura}
-use seplogic.Ra.TreeShare.{full_share}
-use mir.Syntax.{Width, Name, ty_int, place, Opd as Operand, copy, Body as Code}
+use base.Fraction.{full_share}
+use mir.Syntax.{Width, Callee as Name, ty_int, place, Opd as Operand, copy, Body as Code}
 use mir.Val.{Val, vint, vptr, bits}
 use base.Logic.{SProp, ent, id⊢}
 use base.Fml.{GName, Lft, Share, ftrue, flft, fobs, fbor, fat, froom, fauth, fobor}
@@ -69,7 +69,7 @@ module _ (T : Lendable) (R : Replying T) {M : Type 1} {𝓤 : Ura M} (𝓛 : Log
 
       pub lends : {E : Env 𝓤 H} {C : Calls 𝓤 H} {Λ : Loops 𝓤 H} {p : Post 𝓤 H} {Γ : List (Item 𝓤)} {g : Name} {copied replied : ℕ} {args : List Operand} {rest : Code}
           → Frame E copied replied a l c r → FmC 𝓤 H 𝓛.laws C → Triple 𝓤 (C g) (Callee T R w 𝓛 n F)
-          → ent 𝓤 (sem 𝓛 ((row_of T).own h (vals T h))) ((Callee T R w 𝓛 n F).pre asked)
+          → ent 𝓤 (sem 𝓛 ((row_of T).own_val h (vals T h))) ((Callee T R w 𝓛 n F).pre asked)
           → Opds (Go {0}) 𝓛 (at_call ((Callee T R w 𝓛 n F).pre asked) Γ) E (copy (place copied []) ∷ args) ((Callee T R w 𝓛 n F).args asked)
           → ((z : R.Reply) → Told z → R.answer z < 2 ^ bits R.wide → Seq (Go {0}) 𝓛 (after z Γ) (runs C Λ E rest p))
           → Seq (Go {0}) 𝓛 (before Γ) (runs C Λ E (lending T R copied g replied args rest) p)
@@ -80,7 +80,7 @@ module _ (T : Lendable) (R : Replying T) {M : Type 1} {𝓤 : Ura M} (𝓛 : Log
           assigns ! (of_opd ! (load ! (at.lender _ _ _ (hop ! (look ! 7 refl) (stop !))) (look_raw ! 1 refl))) (at.copy _ _ _ (stop !)) (init ! 6 refl ((LL.lawful T.type T.laws 𝓛).typed h _ was).0) $
           use1 𝓛 (raw ((Callee T R w 𝓛 n F).pre asked)) goes $
           calls_at ! fm (Callee T R w 𝓛 n F) known asked reads (λ v.
-          use1 𝓛 (later (some (λ (z : R.Reply). (‵ ftrue ⊛ ‵ ((reply_row T R).own z (v ∷ []))) ⊛ raw (ensured 𝓛 (taking T w (reply_row T R) n) (ByValue T R w 𝓛 n F) tt x tt z)))) (id⊢ 𝓤 _) $ await ! tt $ pick ! (λ z.
+          use1 𝓛 (later (some (λ (z : R.Reply). (‵ ftrue ⊛ ‵ ((reply_row T R).own_val z (v ∷ []))) ⊛ raw (ensured 𝓛 (taking T w (reply_row T R) n) (ByValue T R w 𝓛 n F) tt x tt z)))) (id⊢ 𝓤 _) $ await ! tt $ pick ! (λ z.
           split ! $ move ! (1 ∷ []) $ use1 𝓛 (raw (fact 𝓤 (Told z))) (gave T w 𝓛 (reply_row T R) n F x z) $ heard ! (Told z) (λ e. split ! $ drop ! $
           peeks ! (reply_row T R) (Is (reply_row T R)) (shows 𝓛 (reply_row T R)) z (v ∷ []) (λ is.
           land ! (at.reply _ _ _ (stop !)) (init ! 5 refl ((LL.lawful (reply_type T R) (reply_laws T R) 𝓛).typed z _ is).0) $

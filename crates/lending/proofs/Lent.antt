@@ -4,7 +4,7 @@ use mathlib.Core.Path.{◌≡◌, refl, ap, sym, subst, ◌∙◌}
 use Prim.Native.Nat.{ℕ, suc, ◌<◌, ◌^◌}
 use mathlib.Core.List.{[], ◌∷◌, List}
 use seplogic.Ra.Ura.{Ura}
-use mir.Syntax.{Width, Name, ty_int, place, copy}
+use mir.Syntax.{Width, Callee as Name, ty_int, place, copy}
 use mir.Val.{Val, vint, vptr, bits}
 use base.Logic.{SProp, ent}
 use base.Fml.{GName, Lft, Share, flft}
@@ -19,7 +19,7 @@ use denote.Triple.Statement.{Triple}
 use denote.Triple.Spec.{Meets}
 use denote.Triple.Clauses.{closing}
 use Rattle.lending.proofs.Lendable.{Lendable, Value, mir_of, vals, val, reference, held, Replying, reply_row, reply_mir}
-use Rattle.lending.proofs.Numbers.{Numbers, Fit, values, slots, denots, spelled, numbers_are, spelled_are, past, copies, stands, carried, env, further, all_stand, behind, cells, alloc_numbers, pass_numbers, free_numbers, read_numbers}
+use Rattle.lending.proofs.Numbers.{Numbers, Fit, values, slots, denots, spelled, numbers_are, spelled_are, Locals, past, copies, stands, carried, env, further, all_stand, behind, cells, alloc_numbers, pass_numbers, free_numbers, read_numbers}
 use Rattle.lending.proofs.Calls.{given_over, Promise, lent, Lent, Replies, Keeps, Callee, function}
 use Rattle.lending.proofs.Entry.{Has, meets_by}
 use Rattle.lending.proofs.Lends.{Frame, at_call, lends}
@@ -30,8 +30,12 @@ module _ (T : Lendable) (R : Replying T) (w : Width) {M : Type 1} {𝓤 : Ura M}
   open 𝓛 use {H}
 
   module _ (h : Value T) (xs : Numbers n) (a l c r : ℕ) (ks : Numbers n) where
+    -- the locals behind the numbers
+    abbrev kept : Locals
+    kept = (mir_of T, c) ∷ (reply_mir T R, r) ∷ []
+
     abbrev locals : Env 𝓤 H
-    locals = (ty_int R.wide, a) ∷ (reference T, l) ∷ env w n ks ((mir_of T, c) ∷ (reply_mir T R, r) ∷ [])
+    locals = (ty_int R.wide, a) ∷ (reference T, l) ∷ env w n ks kept
 
     at : Frame T R 𝓛 locals (suc (suc (past n 0))) (suc (suc (past n 1))) a l c r
     at =
@@ -48,7 +52,7 @@ module _ (T : Lendable) (R : Replying T) (w : Width) {M : Type 1} {𝓤 : Ura M}
         subst (λ (us : List Val). Opds (Go {0}) 𝓛 (at_call T R 𝓛 κ q b o γ h a l c r P (cells w n ks xs ∷ Γ)) locals (copy (place (suc (suc (past n 0))) []) ∷ copies 2 n) (val T h ∷ us)) (sym (spelled_are w 0 n tt xs))
         (and_then ! (load ! (at.copy _ _ _ (stop !)) (look ! 6 refl))
         (carried 𝓛 (λ G s. move ! (9 ∷ []) $ s) (λ G s. move ! (1 ∷ 2 ∷ 3 ∷ 4 ∷ 5 ∷ 6 ∷ 7 ∷ 8 ∷ 9 ∷ 0 ∷ []) $ s)
-        (read_numbers w 𝓛 n ks xs _ locals 2 (further w n ks (ty_int R.wide, a) _ 1 (further w n ks (reference T, l) _ 0 (all_stand w n ks _))))))
+        (read_numbers w 𝓛 n ks xs _ locals 2 (further w n ks (ty_int R.wide, a) ((reference T, l) ∷ env w n ks kept) 1 (further w n ks (reference T, l) (env w n ks kept) 0 (all_stand w n ks kept))))))
 
   module _ (C : Calls 𝓤 H) (Λ : Loops 𝓤 H) (fm : FmC 𝓤 H 𝓛.laws C) (g : Name) (known : Triple 𝓤 (C g) (Callee T R w 𝓛 n F)) (h : Value T) (xs : Numbers n) (fits : Fit w n xs) (Q : Val → SProp 𝓤) where
     walk : ((z : R.Reply) → z ≡ F h xs → R.answer z < 2 ^ bits R.wide → ent 𝓤 (Has T 𝓛 κ q b o γ (R.value z)) (Q (vint R.wide (R.answer z)))) → ent 𝓤 (Has T 𝓛 κ q b o γ h) (WpFn 𝓤 H C Λ (function T R w n g) (vptr b o ∷ values w n xs) Q)
