@@ -115,14 +115,15 @@ module _ (T : Lendable) (R : Replying T) where
     abbrev pub Callee : Contract 𝓤
     Callee = Taking T w 𝓛 (reply_row T R) n F
 
-  -- the locals are the answer, the reference, the numbers, the copy and the reply
-  abbrev pub lending : ℕ → Name → ℕ → List Operand → Code → Code
-  lending copied g replied args rest =
+  -- the locals are the answer, the reference, the numbers, the copy, the reply and the value of the reply, which is stored
+  abbrev pub lending : ℕ → Name → ℕ → ℕ → List Operand → Code → Code
+  lending copied g replied stored args rest =
       seq (assign (place copied []) (rv_opd (copy (place 1 (deref (mir_of T) ∷ [])))))
       (seq (call g (copy (place copied []) ∷ args) (place replied []))
-      (seq (assign (place 1 (deref (mir_of T) ∷ [])) (rv_opd (copy (place replied (field 1 ∷ [])))))
+      (seq (assign (place stored []) (rv_opd (copy (place replied (field 1 ∷ [])))))
+      (seq (assign (place 1 (deref (mir_of T) ∷ [])) (rv_opd (copy (place stored []))))
       (seq (assign (place 0 []) (rv_opd (copy (place replied (field 0 ∷ [])))))
-      rest)))
+      rest))))
 
   abbrev pub function : Width → ℕ → Name → Fn
   function w n g =
@@ -133,6 +134,6 @@ module _ (T : Lendable) (R : Replying T) where
         givens = 0;
         params = suc n;
         locals = local (ty_int R.wide) value_local ∷ local (reference T) value_local
-            ∷ number_locals w n (local (mir_of T) value_local ∷ local (reply_mir T R) value_local ∷ []);
-        body = lending (suc (suc (past n 0))) g (suc (suc (past n 1))) (copies 2 n) return;
+            ∷ number_locals w n (local (mir_of T) value_local ∷ local (reply_mir T R) value_local ∷ local (mir_of T) value_local ∷ []);
+        body = lending (suc (suc (past n 0))) g (suc (suc (past n 1))) (suc (suc (past n 2))) (copies 2 n) return;
       }
