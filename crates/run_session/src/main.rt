@@ -1,11 +1,14 @@
 // Document 01's session program: reads a session from standard input and writes what it answers. What a session is and
-// what it answers is `session`'s; here bytes are only read and written. How the session goes on is stated where no read and
-// no write failed; what a system call moves stays outside.
+// what it answers is `session`'s; here bytes are only read and written. How the session goes on and what is written is stated
+// where no read and no write failed, for any reader and any writer; what a system call moves stays outside.
 #![tactic(auto)]
 
 ghost use Rattle.std.specs.Prelude.{◌≡◌, true, false, take, IfOk, OnErr};
 ghost use Rattle.rows.specs.Text.{Spoke};
+ghost use Rattle.std.specs.Io.KnownBytes.{Appends};
+ghost use Rattle.session_rules.specs.Bytes.{said_all};
 ghost use Rattle.run_session.specs.Goes.{TookSome, TookAll, Answered, Fed, last_of, refused_of};
+ghost use Rattle.run_session.specs.Passing.{Passed, AnswersAll};
 
 use session_rules::Session;
 use std::io;
@@ -64,7 +67,8 @@ fn unwritten(words: &impl Eprint, s: Session) -> Went
 
 // The text is written before more is read, so that a line typed at a terminal is answered when it is entered.
 fn feed<W: Write>(output: &mut W, s: Session, piece: &[u8]) -> Took
-    ensures { TookSome s piece.now result }
+    ensures took { TookSome s piece.now result }
+    ensures wrote { result.written ≡ true → Appends (W.contents output.old) (W.contents output.new) (said_all s (take result.used piece.now)) }
 {
     let mut out = [0u8; 65536];
     let t = session::feed(s, piece, &mut out);
@@ -80,7 +84,8 @@ fn feed<W: Write>(output: &mut W, s: Session, piece: &[u8]) -> Took
 // Feeds all of a piece; its text may need several buffers. After the last line that is taken no more is wanted, so that an
 // endless input ends too.
 fn feed_all<W: Write, E: Eprint>(output: &mut W, words: &E, s: Session, piece: &[u8]) -> Went
-    ensures { result.failed ≡ false → TookAll s piece.now result }
+    ensures took { result.failed ≡ false → TookAll s piece.now result }
+    ensures wrote { result.failed ≡ false → Appends (W.contents output.old) (W.contents output.new) (said_all s piece.now) }
 {
     let mut session = s;
     let mut from = 0;
@@ -104,7 +109,8 @@ fn feed_all<W: Write, E: Eprint>(output: &mut W, words: &E, s: Session, piece: &
 // Answers a piece of the input; no byte is the input's end. The last byte of a piece is fed by itself: where no line is taken
 // any more when it comes, the rest stays unread.
 fn answered<W: Write, E: Eprint>(output: &mut W, words: &E, s: Session, piece: &[u8]) -> Went
-    ensures { result.failed ≡ false → Answered s piece.now result }
+    ensures answered { result.failed ≡ false → Answered s piece.now result }
+    ensures wrote { result.failed ≡ false → Appends (W.contents output.old) (W.contents output.new) (said_all s piece.now) }
 {
     if piece.len() == 0 {
         return Went {
@@ -139,7 +145,8 @@ fn after_read<W: Write, E: Eprint>(
     got: io::Result<usize>,
     buf: &[u8],
 ) -> Went
-    ensures taken { result.failed ≡ false → IfOk got (λ n. Answered s (take n buf.now) result) }
+    ensures answered { result.failed ≡ false → IfOk got (λ n. Answered s (take n buf.now) result) }
+    ensures wrote { result.failed ≡ false → IfOk got (λ n. Appends (W.contents output.old) (W.contents output.new) (said_all s (take n buf.now))) }
     ensures unread { OnErr got (result.failed ≡ true) }
 {
     match got {
@@ -152,7 +159,8 @@ fn after_read<W: Write, E: Eprint>(
 }
 
 fn read<R: Read, W: Write, E: Eprint>(input: &mut R, output: &mut W, words: &E, s: Session) -> Went
-    ensures { result.failed ≡ false → Fed s result }
+    ensures fed { result.failed ≡ false → Fed s result }
+    ensures passed { result.failed ≡ false → Passed s 1 (R.remaining input.old) (R.remaining input.new) (W.contents output.old) (W.contents output.new) result }
 {
     let mut buf = [0u8; 65536];
     let got = input.read(&mut buf);
@@ -161,7 +169,8 @@ fn read<R: Read, W: Write, E: Eprint>(input: &mut R, output: &mut W, words: &E, 
 
 // A proved loop has to end, so this one counts its reads, up to a number that no run uses up.
 fn whole<R: Read, W: Write, E: Eprint>(input: &mut R, output: &mut W, words: &E, s: Session) -> Went
-    ensures { result.failed ≡ false → Fed s result }
+    ensures fed { result.failed ≡ false → Fed s result }
+    ensures passed { result.failed ≡ false → Passed s u64.MAX (R.remaining input.old) (R.remaining input.new) (W.contents output.old) (W.contents output.new) result }
 {
     let mut w = Went {
         session: s,
@@ -186,6 +195,19 @@ fn ending(w: Went, out: &mut [u8; 64]) -> usize
         return 0;
     }
     session::finish(w.session, out)
+}
+
+// A session from its begin to its end. The counts come last, and after a failure nothing.
+fn run<R: Read, W: Write, E: Eprint>(input: &mut R, output: &mut W, words: &E) -> Went
+    ensures { result.failed ≡ false → AnswersAll (R.remaining input.old) (W.contents output.old) (W.contents output.new) }
+{
+    let w = whole(input, output, words, session::begin());
+    let mut out = [0u8; 64];
+    let n = ending(w, &mut out);
+    if output.write_all(&out[..n]).is_err() {
+        return unwritten(words, w.session);
+    }
+    w
 }
 
 // How many lines were refused, the last one too where it lacks its newline.
@@ -215,13 +237,8 @@ fn tell(words: &impl Eprint, w: Went, refusals: u16) {
 }
 
 fn main(rt: HostRuntime) {
-    let mut output = rt.stdout();
-    let w = whole(&mut rt.stdin(), &mut output, &rt, session::begin());
-    let mut out = [0u8; 64];
-    let n = ending(w, &mut out);
-    if output.write_all(&out[..n]).is_err() {
-        unwritten(&rt, w.session);
-    } else if !w.failed {
+    let w = run(&mut rt.stdin(), &mut rt.stdout(), &rt);
+    if !w.failed {
         tell(&rt, w, refused(w.session));
     }
 }
