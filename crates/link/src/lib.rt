@@ -200,6 +200,7 @@ fn sending(s: SenderHalf, ready: bool, broken: bool, f: Format) -> Sent
 }
 
 // A transmit tick, told whether a frame or a break may start, whether break is on, and the format. Each one counts.
+#[tactic(auto, unfolding(link_rules::specs::Transmitting::transmit))]
 pub fn transmit(s: SenderHalf, ready: bool, broken: bool, f: Format) -> Sent
     ensures { result ≡ Transmitting.transmit s ready broken f }
 {
@@ -340,6 +341,7 @@ fn hearing(r: ReceiverHalf, live: bool, f: Format, x: bool) -> Received
 }
 
 // A receive tick, told whether receive is on, the format and the level. Each one counts.
+#[tactic(auto, unfolding(link_rules::specs::Hearing::receive))]
 pub fn receive(r: ReceiverHalf, live: bool, f: Format, x: bool) -> Received
     ensures { result ≡ Hearing.receive r live f x }
 {
@@ -388,6 +390,7 @@ fn frame_in_range(g: Frame, guard: u8) -> bool
 }
 
 // Whether a sending half is one of document 01.
+#[tactic(auto, unfolding(link_rules::specs::Within::sender_in_range))]
 pub fn sender_in_range(s: SenderHalf) -> bool
     ensures { result ≡ sender_in_range s }
 {
@@ -505,6 +508,7 @@ pub fn receiver_rests_in_range(r: ReceiverHalf) -> bool
 }
 
 // Whether a receiving half is one of document 01.
+#[tactic(auto, unfolding(link_rules::specs::Within::receiver_in_range))]
 pub fn receiver_in_range(r: ReceiverHalf) -> bool
     ensures { result ≡ receiver_in_range r }
 {

@@ -2,7 +2,7 @@
 #![tactic(auto)]
 
 use ins2651_rules::Device;
-use libc::STDOUT_FILENO;
+use std::io;
 
 // A run of calls: the device, what is drawn next, how many calls, how many refused, and a sum over the answers.
 #[derive(Clone, Copy)]
@@ -14,13 +14,12 @@ struct Session {
     sum: u32,
 }
 
-fn text(bytes: &[u8]) {
-    io::write_all(STDOUT_FILENO, bytes);
+fn text(rt: &impl Print, bytes: &[u8]) -> io::Result<()> {
+    rt.write_all(bytes)
 }
 
-fn field(n: u32) {
-    text(b"\t");
-    io::print_decimal(STDOUT_FILENO, n as u64);
+fn field(rt: &impl Print, n: u32) -> io::Result<()> {
+    print!(rt; "\t{n}")
 }
 
 fn drawn(s: Session) -> Session {
@@ -63,9 +62,9 @@ fn stamped(s: Session) -> Session {
 fn called(s: Session, d: Device, refusal: u8) -> Session {
     let mut next = s;
     next.device = d;
-    next.calls = std::num::wrapping_add_u32(s.calls, 1);
+    next.calls = s.calls.wrapping_add(1);
     if 0 < refusal {
-        next.refused = std::num::wrapping_add_u32(s.refused, 1);
+        next.refused = s.refused.wrapping_add(1);
     }
     next
 }
@@ -132,7 +131,7 @@ fn outputs(s: Session) -> Session {
 // At most `most` echoed ticks, at least one.
 fn burst(s: Session, most: u32) -> Session {
     let mut next = drawn(s);
-    let n = std::num::wrapping_add_u32(below(next, most), 1);
+    let n = below(next, most).wrapping_add(1);
     for _ in 0..n {
         next = echo(next);
     }
@@ -141,7 +140,7 @@ fn burst(s: Session, most: u32) -> Session {
 
 fn transmits(s: Session) -> Session {
     let mut next = drawn(s);
-    let n = std::num::wrapping_add_u32(below(next, 200), 1);
+    let n = below(next, 200).wrapping_add(1);
     for _ in 0..n {
         next = transmit(next);
     }
@@ -150,7 +149,7 @@ fn transmits(s: Session) -> Session {
 
 fn receives(s: Session) -> Session {
     let first = drawn(s);
-    let n = std::num::wrapping_add_u32(below(first, 200), 1);
+    let n = below(first, 200).wrapping_add(1);
     let mut next = drawn(first);
     let x = byte(next, 2);
     for _ in 0..n {
@@ -280,38 +279,39 @@ fn begun(seed: u32) -> Session {
 }
 
 // Both stamps, both tallies and the status byte.
-fn kept(d: Device) {
+fn kept(rt: &impl Print, d: Device) -> io::Result<()> {
     let held = ins2651::stamp(d);
     let sent = ins2651::start(d);
     let transmitted = ins2651::transmit_tally(d);
     let received = ins2651::receive_tally(d);
-    text(b"T");
-    field(held.0);
-    field(sent.0);
-    field(transmitted.0);
-    field(received.0);
-    field(d.status as u32);
-    text(b"\n");
+    text(rt, b"T")?;
+    field(rt, held.0)?;
+    field(rt, sent.0)?;
+    field(rt, transmitted.0)?;
+    field(rt, received.0)?;
+    field(rt, d.status as u32)?;
+    text(rt, b"\n")
 }
 
-fn drawn_session(number: u32) {
-    let seed = std::num::wrapping_add_u32(number, 1);
+fn drawn_session(rt: &impl Print, number: u32) -> io::Result<()> {
+    let seed = number.wrapping_add(1);
     let s = read(read(steps(begun(seed), 500), 1), 0);
-    text(b"Q");
-    field(number);
-    field(s.calls);
-    field(s.refused);
-    field(s.sum);
-    text(b"\n");
-    kept(s.device);
+    text(rt, b"Q")?;
+    field(rt, number)?;
+    field(rt, s.calls)?;
+    field(rt, s.refused)?;
+    field(rt, s.sum)?;
+    text(rt, b"\n")?;
+    kept(rt, s.device)
 }
 
-fn sessions(n: u32) {
+fn sessions(rt: &impl Print, n: u32) -> io::Result<()> {
     for number in 0..n {
-        drawn_session(number);
+        drawn_session(rt, number)?;
     }
+    Ok(())
 }
 
-fn main() {
-    sessions(64);
+fn main(rt: HostRuntime) -> io::Result<()> {
+    sessions(&rt, 64)
 }

@@ -4,8 +4,8 @@
 
 use ins2651_rules::Device;
 use joined_rules::Pair;
-use libc::STDOUT_FILENO;
 use line_rules::{Arrival, Format, Heard, Receiver, RxC};
+use std::io;
 
 // A recording while it is read: the samples so far, which are the receive tally, the characters that came and a sum over them. `list` writes
 // out each.
@@ -30,26 +30,25 @@ fn fresh(list: bool, seed: u32) -> Bench {
     }
 }
 
-fn text(bytes: &[u8]) {
-    io::write_all(STDOUT_FILENO, bytes);
+fn text(rt: &impl Print, bytes: &[u8]) -> io::Result<()> {
+    rt.write_all(bytes)
 }
 
-fn field(n: u32) {
-    text(b"\t");
-    io::print_decimal(STDOUT_FILENO, n as u64);
+fn field(rt: &impl Print, n: u32) -> io::Result<()> {
+    print!(rt; "\t{n}")
 }
 
-fn small(n: u8) {
-    field(n as u32);
+fn small(rt: &impl Print, n: u8) -> io::Result<()> {
+    field(rt, n as u32)
 }
 
-fn title(kind: &[u8], f: Format) {
-    text(kind);
-    small(f.factor);
-    small(f.length);
-    small(f.parity);
-    small(f.even);
-    small(f.stop);
+fn title(rt: &impl Print, kind: &[u8], f: Format) -> io::Result<()> {
+    text(rt, kind)?;
+    small(rt, f.factor)?;
+    small(rt, f.length)?;
+    small(rt, f.parity)?;
+    small(rt, f.even)?;
+    small(rt, f.stop)
 }
 
 // The flags at their places in the status register: framing 5, parity 3.
@@ -70,24 +69,24 @@ fn mixed(sum: u32, x: u32) -> u32 {
     ((sum as u64 * 31 + x as u64) % 4294967296) as u32
 }
 
-fn came(b: Bench, a: Arrival) -> Bench {
+fn came(rt: &impl Print, b: Bench, a: Arrival) -> io::Result<Bench> {
     let mut next = b;
     let n = flags(a);
     let value = a.value;
     let at = a.stamp;
-    next.characters = std::num::wrapping_add_u32(b.characters, 1);
+    next.characters = b.characters.wrapping_add(1);
     next.sum = mixed(mixed(mixed(b.sum, at.0), value as u32), n as u32);
     if b.list {
-        text(b"C");
-        field(at.0);
-        small(value);
-        small(n);
-        text(b"\n");
+        text(rt, b"C")?;
+        field(rt, at.0)?;
+        small(rt, value)?;
+        small(rt, n)?;
+        text(rt, b"\n")?;
     }
-    next
+    Ok(next)
 }
 
-fn take(f: Format, b: Bench, x: bool) -> Bench {
+fn take(rt: &impl Print, f: Format, b: Bench, x: bool) -> io::Result<Bench> {
     let mut next = b;
     let r = b.receiver;
     let now = line::rx_later(b.samples, 1);
@@ -97,26 +96,26 @@ fn take(f: Format, b: Bench, x: bool) -> Bench {
     next.samples = now;
     let heard = s.heard;
     match heard {
-        Heard::Nothing => next,
-        Heard::Character(a) => came(next, a),
+        Heard::Nothing => Ok(next),
+        Heard::Character(a) => came(rt, next, a),
     }
 }
 
-fn hold(f: Format, b: Bench, x: bool, n: u32) -> Bench {
+fn hold(rt: &impl Print, f: Format, b: Bench, x: bool, n: u32) -> io::Result<Bench> {
     let mut next = b;
     for _ in 0..n {
-        next = take(f, next, x);
+        next = take(rt, f, next, x)?;
     }
-    next
+    Ok(next)
 }
 
 // The first n levels of a frame of c in the format g, as the receiver reads them in f.
-fn send(f: Format, g: Format, b: Bench, c: u8, n: u16) -> Bench {
+fn send(rt: &impl Print, f: Format, g: Format, b: Bench, c: u8, n: u16) -> io::Result<Bench> {
     let mut next = b;
     for place in 0..n {
-        next = take(f, next, line::level(g, c, place));
+        next = take(rt, f, next, line::level(g, c, place))?;
     }
-    next
+    Ok(next)
 }
 
 fn drawn(b: Bench) -> Bench {
@@ -134,42 +133,44 @@ fn below(b: Bench, n: u32) -> u32 {
 }
 
 // A frame of a character that is drawn: whole, or cut short where `whole` is false.
-fn frame(f: Format, g: Format, b: Bench, whole: bool) -> Bench {
+fn frame(rt: &impl Print, f: Format, g: Format, b: Bench, whole: bool) -> io::Result<Bench> {
     let first = drawn(b);
     let c = (below(first, 256) % 256) as u8;
     let ticks = line::frame_length(g);
     if whole {
-        return send(f, g, first, c, (ticks % 65536) as u16);
+        return send(rt, f, g, first, c, (ticks % 65536) as u16);
     }
     let second = drawn(first);
-    send(f, g, second, c, (below(second, ticks) % 65536) as u16)
+    send(rt, f, g, second, c, (below(second, ticks) % 65536) as u16)
 }
 
-fn noise(f: Format, b: Bench) -> Bench {
+fn noise(rt: &impl Print, f: Format, b: Bench) -> io::Result<Bench> {
     let first = drawn(b);
     let x = below(first, 2) == 1;
     let second = drawn(first);
     hold(
+        rt,
         f,
         second,
         x,
-        std::num::wrapping_add_u32(below(second, f.factor as u32), 1),
+        below(second, f.factor as u32).wrapping_add(1),
     )
 }
 
-fn mark(f: Format, b: Bench) -> Bench {
+fn mark(rt: &impl Print, f: Format, b: Bench) -> io::Result<Bench> {
     let first = drawn(b);
     hold(
+        rt,
         f,
         first,
         true,
-        std::num::wrapping_add_u32(below(first, f.factor as u32 * 3), 1),
+        below(first, f.factor as u32 * 3).wrapping_add(1),
     )
 }
 
 // Half a start bit, and the single 1 that makes it a false start.
-fn false_start(f: Format, b: Bench) -> Bench {
-    hold(f, hold(f, b, false, line::half(f) as u32), true, 1)
+fn false_start(rt: &impl Print, f: Format, b: Bench) -> io::Result<Bench> {
+    hold(rt, f, hold(rt, f, b, false, line::half(f) as u32)?, true, 1)
 }
 
 fn other_parity(f: Format) -> Format {
@@ -181,38 +182,45 @@ fn other_parity(f: Format) -> Format {
     g
 }
 
-fn piece(f: Format, b: Bench) -> Bench {
+fn piece(rt: &impl Print, f: Format, b: Bench) -> io::Result<Bench> {
     let first = drawn(b);
     let kind = below(first, 6);
     match kind {
-        0 => mark(f, first),
-        1 => frame(f, f, first, true),
-        2 => frame(f, other_parity(f), first, true),
-        3 => frame(f, f, first, false),
-        4 => noise(f, first),
-        _ => false_start(f, first),
+        0 => mark(rt, f, first),
+        1 => frame(rt, f, f, first, true),
+        2 => frame(rt, f, other_parity(f), first, true),
+        3 => frame(rt, f, f, first, false),
+        4 => noise(rt, f, first),
+        _ => false_start(rt, f, first),
     }
 }
 
-fn pieces(f: Format, b: Bench, n: u32) -> Bench {
+fn pieces(rt: &impl Print, f: Format, b: Bench, n: u32) -> io::Result<Bench> {
     let mut next = b;
     for _ in 0..n {
-        next = piece(f, next);
+        next = piece(rt, f, next)?;
     }
-    next
+    Ok(next)
 }
 
 // Forty pieces of line, drawn and read; what is drawn next goes on from there.
-fn sweep(f: Format, seed: u32) -> u32 {
-    let b = pieces(f, fresh(false, seed), 40);
-    title(b"V", f);
-    field(b.characters);
-    field(b.sum);
-    text(b"\n");
-    b.seed
+fn sweep(rt: &impl Print, f: Format, seed: u32) -> io::Result<u32> {
+    let b = pieces(rt, f, fresh(false, seed), 40)?;
+    title(rt, b"V", f)?;
+    field(rt, b.characters)?;
+    field(rt, b.sum)?;
+    text(rt, b"\n")?;
+    Ok(b.seed)
 }
 
-fn stops(factor: u8, length: u8, parity: u8, even: u8, seed: u32) -> u32 {
+fn stops(
+    rt: &impl Print,
+    factor: u8,
+    length: u8,
+    parity: u8,
+    even: u8,
+    seed: u32,
+) -> io::Result<u32> {
     let mut next = seed;
     let mut f = Format {
         factor: factor,
@@ -221,31 +229,31 @@ fn stops(factor: u8, length: u8, parity: u8, even: u8, seed: u32) -> u32 {
         even: even,
         stop: factor,
     };
-    next = sweep(f, next);
+    next = sweep(rt, f, next)?;
     if factor == 16 {
         f.stop = 24;
-        next = sweep(f, next);
+        next = sweep(rt, f, next)?;
     }
     if factor == 64 {
         f.stop = 96;
-        next = sweep(f, next);
+        next = sweep(rt, f, next)?;
     }
-    f.stop = std::num::wrapping_add_u8(factor, factor);
-    sweep(f, next)
+    f.stop = factor.wrapping_add(factor);
+    sweep(rt, f, next)
 }
 
-fn parities(factor: u8, length: u8, seed: u32) -> u32 {
-    let none = stops(factor, length, 0, 0, seed);
-    let ignored = stops(factor, length, 0, 1, none);
-    let odd = stops(factor, length, 1, 0, ignored);
-    stops(factor, length, 1, 1, odd)
+fn parities(rt: &impl Print, factor: u8, length: u8, seed: u32) -> io::Result<u32> {
+    let none = stops(rt, factor, length, 0, 0, seed)?;
+    let ignored = stops(rt, factor, length, 0, 1, none)?;
+    let odd = stops(rt, factor, length, 1, 0, ignored)?;
+    stops(rt, factor, length, 1, 1, odd)
 }
 
-fn formats(factor: u8, seed: u32) -> u32 {
-    let five = parities(factor, 5, seed);
-    let six = parities(factor, 6, five);
-    let seven = parities(factor, 7, six);
-    parities(factor, 8, seven)
+fn formats(rt: &impl Print, factor: u8, seed: u32) -> io::Result<u32> {
+    let five = parities(rt, factor, 5, seed)?;
+    let six = parities(rt, factor, 6, five)?;
+    let seven = parities(rt, factor, 7, six)?;
+    parities(rt, factor, 8, seven)
 }
 
 // A format with no parity and one stop bit, and a bench that has its mark.
@@ -259,57 +267,65 @@ fn plain(factor: u8) -> Format {
     }
 }
 
-fn marked(f: Format) -> Bench {
-    hold(f, fresh(true, 0), true, 1)
+fn marked(rt: &impl Print, f: Format) -> io::Result<Bench> {
+    hold(rt, f, fresh(true, 0), true, 1)
 }
 
 // Mark, some zeros, then ones.
-fn pulse(f: Format, zeros: u8) {
-    title(b"R", f);
-    small(zeros);
-    text(b"\n");
-    let dropped = hold(f, marked(f), false, zeros as u32);
-    hold(f, dropped, true, 1000);
+fn pulse(rt: &impl Print, f: Format, zeros: u8) -> io::Result<()> {
+    title(rt, b"R", f)?;
+    small(rt, zeros)?;
+    text(rt, b"\n")?;
+    let dropped = hold(rt, f, marked(rt, f)?, false, zeros as u32)?;
+    hold(rt, f, dropped, true, 1000)?;
+    Ok(())
 }
 
 // Mark, some zeros, a 1, other zeros, then ones: the 1 may serve as the mark for the second pulse.
-fn two_pulses(f: Format, zeros: u8, others: u8) {
-    title(b"R", f);
-    small(zeros);
-    small(others);
-    text(b"\n");
-    let first = hold(f, hold(f, marked(f), false, zeros as u32), true, 1);
-    let second = hold(f, first, false, others as u32);
-    hold(f, second, true, 1000);
+fn two_pulses(rt: &impl Print, f: Format, zeros: u8, others: u8) -> io::Result<()> {
+    title(rt, b"R", f)?;
+    small(rt, zeros)?;
+    small(rt, others)?;
+    text(rt, b"\n")?;
+    let first = hold(
+        rt,
+        f,
+        hold(rt, f, marked(rt, f)?, false, zeros as u32)?,
+        true,
+        1,
+    )?;
+    let second = hold(rt, f, first, false, others as u32)?;
+    hold(rt, f, second, true, 1000)?;
+    Ok(())
 }
 
 // == the chip ==
 
-fn show(d: Device, address: u8) -> Device {
+fn show(rt: &impl Print, d: Device, address: u8) -> io::Result<Device> {
     let a = ins2651::read(d, address);
-    text(b"R");
-    field(address as u32);
-    field(a.refusal as u32);
-    field(a.value as u32);
+    text(rt, b"R")?;
+    field(rt, address as u32)?;
+    field(rt, a.refusal as u32)?;
+    field(rt, a.value as u32)?;
     if address == 0 {
         let stamp = ins2651::stamp(d);
-        field(stamp.0);
+        field(rt, stamp.0)?;
     }
-    text(b"\n");
-    a.device
+    text(rt, b"\n")?;
+    Ok(a.device)
 }
 
 // The start of the last frame, and both tallies.
-fn clocks(d: Device) -> Device {
+fn clocks(rt: &impl Print, d: Device) -> io::Result<Device> {
     let start = ins2651::start(d);
     let transmitted = ins2651::transmit_tally(d);
     let received = ins2651::receive_tally(d);
-    text(b"S");
-    field(start.0);
-    field(transmitted.0);
-    field(received.0);
-    text(b"\n");
-    d
+    text(rt, b"S")?;
+    field(rt, start.0)?;
+    field(rt, transmitted.0)?;
+    field(rt, received.0)?;
+    text(rt, b"\n")?;
+    Ok(d)
 }
 
 fn written(d: Device, address: u8, value: u8) -> Device {
@@ -356,41 +372,47 @@ fn hear_frame(d: Device, c: u8) -> Device {
     next
 }
 
-fn two_unread() {
-    text(b"K\tunread\n");
+fn two_unread(rt: &impl Print) -> io::Result<()> {
+    text(rt, b"K\tunread\n")?;
     let marked = hear(set_up_to_hear(77), 1, 1);
     let both = hear_frame(hear_frame(marked, 65), 66);
-    show(show(show(both, 1), 0), 1);
+    show(rt, show(rt, show(rt, both, 1)?, 0)?, 1)?;
+    Ok(())
 }
 
-fn addresses_3_and_4() {
-    text(b"K\taddresses\n");
-    show(show(ins2651::reset(), 3), 4);
+fn addresses_3_and_4(rt: &impl Print) -> io::Result<()> {
+    text(rt, b"K\taddresses\n")?;
+    show(rt, show(rt, ins2651::reset(), 3)?, 4)?;
+    Ok(())
 }
 
-fn zeros(n: u32) {
-    text(b"K\tzeros");
-    io::print_decimal(STDOUT_FILENO, n as u64);
-    text(b"\n");
+fn zeros(rt: &impl Print, n: u32) -> io::Result<()> {
+    println!(rt; "K\tzeros{n}")?;
     let dropped = hear(hear(set_up_to_hear(79), 1, 1), 0, n);
     let after = hear(dropped, 1, 1000);
-    show(show(show(after, 1), 0), 1);
+    show(rt, show(rt, show(rt, after, 1)?, 0)?, 1)?;
+    Ok(())
 }
 
-fn short_pulse() {
-    text(b"K\tpulse\n");
+fn short_pulse(rt: &impl Print) -> io::Result<()> {
+    text(rt, b"K\tpulse\n")?;
     let dropped = hear(hear(set_up_to_hear(78), 1, 100), 0, 3);
     let after = hear(dropped, 1, 1000);
-    show(show(after, 1), 0);
+    show(rt, show(rt, after, 1)?, 0)?;
+    Ok(())
 }
 
 // A stamp stays with its character, read twice, emptied and while receive is off; a refused tick counts nothing.
-fn stamps() {
-    text(b"K\tstamps\n");
+fn stamps(rt: &impl Print) -> io::Result<()> {
+    text(rt, b"K\tstamps\n")?;
     let first = hear_frame(hear(set_up_to_hear(77), 1, 1), 65);
-    let second = written(hear_frame(show(show(first, 0), 0), 66), 3, 0);
-    let third = hear_frame(hear(written(show(hear(second, 0, 5), 0), 3, 4), 1, 1), 67);
-    clocks(show(hear(third, 2, 1), 0));
+    let second = written(hear_frame(show(rt, show(rt, first, 0)?, 0)?, 66), 3, 0);
+    let third = hear_frame(
+        hear(written(show(rt, hear(second, 0, 5), 0)?, 3, 4), 1, 1),
+        67,
+    );
+    clocks(rt, show(rt, hear(third, 2, 1), 0)?)?;
+    Ok(())
 }
 
 fn send_ticks(d: Device, n: u32) -> Device {
@@ -403,23 +425,30 @@ fn send_ticks(d: Device, n: u32) -> Device {
 }
 
 // A frame's start stays to the next one's; a break begins none, and a reset drops it.
-fn starts() {
-    text(b"K\tstarts\n");
+fn starts(rt: &impl Print) -> io::Result<()> {
+    text(rt, b"K\tstarts\n")?;
     let broken = send_ticks(set_up(77, 0, 13), 3);
     let waits = written(written(broken, 3, 5), 0, 65);
-    let sent = clocks(send_ticks(clocks(send_ticks(clocks(send_ticks(waits, 1)), 1)), 12));
-    clocks(send_ticks(written(sent, 0, 66), 1));
-    show(clocks(ins2651::reset()), 0);
+    let sent = clocks(
+        rt,
+        send_ticks(
+            clocks(rt, send_ticks(clocks(rt, send_ticks(waits, 1))?, 1))?,
+            12,
+        ),
+    )?;
+    clocks(rt, send_ticks(written(sent, 0, 66), 1))?;
+    show(rt, clocks(rt, ins2651::reset())?, 0)?;
+    Ok(())
 }
 
-fn chip_cases() {
-    two_unread();
-    addresses_3_and_4();
-    zeros(32);
-    zeros(33);
-    short_pulse();
-    stamps();
-    starts();
+fn chip_cases(rt: &impl Print) -> io::Result<()> {
+    two_unread(rt)?;
+    addresses_3_and_4(rt)?;
+    zeros(rt, 32)?;
+    zeros(rt, 33)?;
+    short_pulse(rt)?;
+    stamps(rt)?;
+    starts(rt)
 }
 
 // == two devices joined ==
@@ -443,48 +472,61 @@ fn b_writes(p: Pair, address: u8, value: u8) -> Pair {
     next
 }
 
-fn b_shows(p: Pair, address: u8) -> Pair {
+fn b_shows(rt: &impl Print, p: Pair, address: u8) -> io::Result<Pair> {
     let mut next = p;
-    let d = show(p.b, address);
+    let d = show(rt, p.b, address)?;
     next.b = d;
-    next
+    Ok(next)
 }
 
-fn ends_at(p: Pair) {
-    clocks(p.a);
-    clocks(p.b);
+fn ends_at(rt: &impl Print, p: Pair) -> io::Result<()> {
+    clocks(rt, p.a)?;
+    clocks(rt, p.b)?;
+    Ok(())
 }
 
 // Document 01's session: the character is not there after 152 ticks, and is there after 153.
-fn worked_session() {
-    text(b"K\tsession\n");
+fn worked_session(rt: &impl Print) -> io::Result<()> {
+    text(rt, b"K\tsession\n")?;
     let fresh = fresh_pair(set_up(206, 126, 39), set_up(206, 126, 39));
-    let early = b_shows(joined::run(a_writes(fresh, 0, 255), 152).pair, 1);
-    ends_at(b_shows(b_shows(b_shows(joined::run(early, 1).pair, 1), 0), 1));
+    let early = b_shows(rt, joined::run(a_writes(fresh, 0, 255), 152).pair, 1)?;
+    ends_at(
+        rt,
+        b_shows(
+            rt,
+            b_shows(rt, b_shows(rt, joined::run(early, 1).pair, 1)?, 0)?,
+            1,
+        )?,
+    )
 }
 
 // The fault code 255 sent with even parity (126) and received with odd (94); a good weight after it, with the mode mended.
 // The good weight leaves the parity flag, reset error clears it.
-fn fault_code() {
-    text(b"K\tfault\n");
+fn fault_code(rt: &impl Print) -> io::Result<()> {
+    text(rt, b"K\tfault\n")?;
     let fresh = fresh_pair(set_up(126, 0, 5), set_up(94, 0, 5));
     let bad = b_shows(
-        b_shows(joined::run(a_writes(fresh, 0, 255), 176).pair, 1),
+        rt,
+        b_shows(rt, joined::run(a_writes(fresh, 0, 255), 176).pair, 1)?,
         0,
-    );
+    )?;
     let weighed = a_writes(a_writes(bad, 2, 94), 0, 100);
-    let good = b_shows(b_shows(b_shows(joined::run(weighed, 176).pair, 1), 0), 1);
-    ends_at(b_shows(b_writes(good, 3, 21), 1));
+    let good = b_shows(
+        rt,
+        b_shows(rt, b_shows(rt, joined::run(weighed, 176).pair, 1)?, 0)?,
+        1,
+    )?;
+    ends_at(rt, b_shows(rt, b_writes(good, 3, 21), 1)?)
 }
 
-fn main() {
-    pulse(plain(64), 32);
-    pulse(plain(64), 33);
-    two_pulses(plain(16), 8, 9);
-    let one = formats(1, 1);
-    let sixteen = formats(16, one);
-    formats(64, sixteen);
-    chip_cases();
-    worked_session();
-    fault_code();
+fn main(rt: HostRuntime) -> io::Result<()> {
+    pulse(&rt, plain(64), 32)?;
+    pulse(&rt, plain(64), 33)?;
+    two_pulses(&rt, plain(16), 8, 9)?;
+    let one = formats(&rt, 1, 1)?;
+    let sixteen = formats(&rt, 16, one)?;
+    formats(&rt, 64, sixteen)?;
+    chip_cases(&rt)?;
+    worked_session(&rt)?;
+    fault_code(&rt)
 }

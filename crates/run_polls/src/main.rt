@@ -3,7 +3,8 @@
 #![tactic(auto)]
 
 use ins2651_rules::Device;
-use libc::{STDIN_FILENO, STDOUT_FILENO};
+use std::io;
+use std::io::Read;
 
 // What was polled: the sum of the answers, and what draws the next device.
 #[derive(Clone, Copy)]
@@ -53,7 +54,7 @@ fn drawn(seed: u32) -> u32 {
 fn poll(d: Device, p: Polled) -> Polled {
     let a = ins2651::read_status(d);
     Polled {
-        sum: std::num::wrapping_add_u32(p.sum, a.value as u32),
+        sum: p.sum.wrapping_add(a.value as u32),
         seed: drawn(p.seed),
     }
 }
@@ -66,10 +67,22 @@ fn polls(room: [Device; 16], n: u64) -> u32 {
     p.sum
 }
 
-fn main() {
-    let mut space = io::large_buffer();
-    let batches = io::read_full(STDIN_FILENO, &mut space);
+// How many bytes the input has, of which no more than 65,536 are read.
+fn batches<R: Read>(input: &mut R) -> io::Result<usize> {
+    let mut space = [0u8; 65536];
+    let mut count = 0;
+    while count < space.len() {
+        let n = input.read(&mut space[count..])?;
+        if n == 0 {
+            break;
+        }
+        count += n;
+    }
+    Ok(count)
+}
+
+fn main(rt: HostRuntime) -> io::Result<()> {
+    let batches = batches(&mut rt.stdin())?;
     let sum = polls(devices(), (batches % 65536) as u64 * 65536); // so that the count fits
-    io::print_decimal(STDOUT_FILENO, sum as u64);
-    io::write_all(STDOUT_FILENO, b"\n");
+    println!(rt; "{sum}")
 }

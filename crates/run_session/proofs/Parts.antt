@@ -3,9 +3,9 @@
 use Prim.Native.Nat.{ℕ, ◌+◌, ◌-◌, ◌≤◌, ◌<◌}
 use Prim.Native.Char.{code}
 use native.Mathlib.Omega.{arith}
-use mathlib.Core.Path.{◌≡◌, refl, sym, ap, ◌∙◌}
+use mathlib.Core.Path.{◌≡◌, refl, sym, ap, ◌∙◌, subst}
 use mathlib.Core.Bool.{Bool, true, false, cond, true≢false}
-use mathlib.Core.List.{List, [], ◌∷◌, ◌++◌}
+use mathlib.Core.List.{List, [], ◌∷◌, ◌++◌, append-nil}
 use borrow.Author.Tests.{lt-ltb, le-ltb}
 use lib.Dec.{ltb}
 use lib.ListN.{length, take, drop, length-drop, take-append-drop}
@@ -13,9 +13,12 @@ use lib.Seq.{length-take-le, take_all, take-take, take-add}
 use Rattle.line_rules.proofs.Choice.{each, either}
 use Rattle.rows.specs.Text.{counts_text}
 use Rattle.session_rules.specs.declared.Session.{Session}
-use Rattle.session_rules.specs.Bytes.{goes_on, after, said, after_all, last_said}
-use Rattle.session_rules.proofs.Cutting.{stopped_after}
-use Rattle.session_rules.proofs.Feeding.{after_append}
+use Rattle.std.specs.Prelude.{Option}
+use Rattle.std.specs.Io.KnownBytes.{Appends}
+use Rattle.std.proofs.KnownBytes.{Appends-trans}
+use Rattle.session_rules.specs.Bytes.{goes_on, after, said, after_all, said_all, last_said}
+use Rattle.session_rules.proofs.Cutting.{stopped_after, stopped_said}
+use Rattle.session_rules.proofs.Feeding.{after_append, said_append}
 use Rattle.run_session.specs.declared.Went.{Went}
 use Rattle.run_session.specs.Goes.{TookAll, stays_unread, Answered, Fed, closed, refused_of}
 
@@ -35,6 +38,16 @@ module _ (piece : List ℕ) (from : ℕ) (h : from ≤ length piece) where
       ∙ ap (λ (v : Session). after_all v (take used (drop from piece))) p
       ∙ sym (after_append s (take from piece) (take used (drop from piece)))
       ∙ ap (λ (l : List ℕ). after_all s l) (sym (take-add from used piece))
+
+  -- what was said to what stands before is written, and then what was said to so much more
+  pub part_said : (s : Session) {t : Session} (used : ℕ) → used ≤ length (left piece from) → t ≡ after_all s (take from piece) → (a b c : Option (List ℕ))
+      → Appends a b (said_all s (take from piece)) → Appends b c (said_all t (take used (left piece from))) → Appends a c (said_all s (take (from + used) piece))
+  part_said s {t} used k p a b c first more =
+      let parts : said_all s (take (from + used) piece) ≡ said_all s (take from piece) ++ said_all t (take used (left piece from)) =
+      ap (λ (l : List ℕ). said_all s l) (take-add from used piece) ∙ said_append s (take from piece) (take used (drop from piece))
+      ∙ ap (λ (v : Session). said_all s (take from piece) ++ said_all v (take used (drop from piece))) (sym p)
+      ∙ ap (λ (l : List ℕ). said_all s (take from piece) ++ said_all t l) (sym (take-take used (length piece - from) (drop from piece) (omega (arith, left_length)))) in
+      subst (Appends a c) (sym parts) (Appends-trans a b c _ _ first more)
 
   -- the piece is what stands before and what is left
   pub parted : take from piece ++ left piece from ≡ piece
@@ -108,6 +121,24 @@ module _ (s : Session) (piece : List ℕ) (last : ℕ) (h : last + 1 ≡ length 
             sym (ap (λ (l : List ℕ). stays_unread s l) (sym whole_piece)
             ∙ all_unread s (take last piece) (left piece last) (ap (λ (u : Session). goes_on u) (sym t.session) ∙ off) (omega (arith, one_left)));
       }
+
+  both_said : said_all s (take last piece) ++ said_all w.session (left piece last) ≡ said_all s piece
+  both_said =
+      ap (λ (u : Session). said_all s (take last piece) ++ said_all u (left piece last)) t.session ∙ sym (said_append s (take last piece) (left piece last))
+      ∙ ap (λ (l : List ℕ). said_all s l) whole_piece
+
+  -- what was said to all but the last byte is written, and then what was said to that byte
+  pub rest_said : (a b c : Option (List ℕ)) → Appends a b (said_all s (take last piece)) → Appends b c (said_all w.session (left piece last)) → Appends a c (said_all s piece)
+  rest_said a b c first more = subst (Appends a c) both_said (Appends-trans a b c _ _ first more)
+
+  -- nothing is said to a byte behind the last line that is taken
+  pub no_rest_said : w.more ≡ false → (a b : Option (List ℕ)) → Appends a b (said_all s (take last piece)) → Appends a b (said_all s piece)
+  no_rest_said m a b first =
+      let off : goes_on w.session ≡ false = sym t.more ∙ m in
+      let none : said_all s (take last piece) ≡ said_all s piece =
+      sym (append-nil (said_all s (take last piece)))
+      ∙ ap (λ (l : List ℕ). said_all s (take last piece) ++ l) (sym (stopped_said w.session off (left piece last))) ∙ both_said in
+      subst (Appends a b) none first
 
 -- == one read after another ==
 

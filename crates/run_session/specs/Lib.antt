@@ -1,1 +1,2 @@
 pub mod Goes
+pub mod Passing

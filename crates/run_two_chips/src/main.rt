@@ -2,9 +2,9 @@
 #![tactic(auto)]
 
 use joined_rules::{Pair, Unit};
-use libc::STDOUT_FILENO;
+use std::io;
 
-fn main() {
+fn main(rt: HostRuntime) -> io::Result<()> {
     let mode = ins2651::write(ins2651::reset(), 2, 77); // mode 1: 8 bits, no parity, 1 stop bit, one tick a bit
     let on = ins2651::write(mode.device, 3, 5); // transmit and receive enabled
     let chip = ins2651::set_pins(on.device, 0, 0, 0).device; // DSR, DCD and CTS low
@@ -13,6 +13,5 @@ fn main() {
     let b = marked.b;
     let sent = joined::wait(Pair { a, b }, Unit::B, 65535).pair; // until it has come: 1+D joined ticks
     let got = ins2651::read(sent.b, 0);
-    io::print_decimal(STDOUT_FILENO, got.value as u64); // 65
-    io::write_all(STDOUT_FILENO, b"\n");
+    println!(rt; "{}", got.value) // 65
 }
