@@ -1,7 +1,8 @@
 -- What eight channels' answers come to is what `board_rules` says, and a channel's refusal is a byte.
 -- Assumes nothing.
-use Rattle.std.proofs.Common.{◌≡◌, ℕ, zero, suc, ◌+◌, ◌*◌, ◌/◌, ◌%◌, ◌<◌, Bool, List, [], ◌∷◌, length, slice_set, refl, sym, ap, ap₂, ◌∙◌, arith}
+use Rattle.std.proofs.Common.{◌≡◌, ℕ, zero, suc, ◌+◌, ◌*◌, ◌/◌, ◌%◌, ◌<◌, Bool, false, List, [], ◌∷◌, length, get_or, slice_set, refl, ap₂, ◌∙◌, arith}
 use Rattle.std.specs.Prelude.{replicate}
+use Rattle.std.proofs.lemmas.Grind.{common_steps}
 use Rattle.ins2651_rules.specs.declared.Device.{Device}
 use Rattle.ins2651_rules.specs.Shape.{reset_device}
 use Rattle.ins2651_rules.specs.Modes.{has}
@@ -14,8 +15,10 @@ use Rattle.ins2651_rules.specs.Runs as chip
 use Rattle.ins2651_rules.proofs.Refused.{given_exactly, answers_refusal}
 use Rattle.board_rules.specs.declared.Board.{Board}
 use Rattle.board_rules.specs.Interrupts.{by_channel, sends_next, holds_one, transmit_status, receive_status, transmit_lines, receive_lines, both_bytes}
-use Rattle.board_rules.specs.Runs.{device_at}
-use Rattle.board.specs.Plans.{low_bits, interrupt_status, enabled, interrupt_lines}
+use Rattle.board_rules.specs.Ports.{In, Interrupts}
+use Rattle.board_rules.specs.Runs.{device_at, said, answer}
+use Rattle.board.specs.declared.Plan.{Plan}
+use Rattle.board.specs.Plans.{plan_in, plan_interrupts, low_bits, interrupt_status, enabled, interrupt_lines}
 
 -- == a refusal fits in a byte ==
 
@@ -88,7 +91,7 @@ by_status p bit same =
 
 -- == the statuses of a room ==
 
--- of each channel in turn, where it is looked at as the room then is
+-- of each channel
 pub record Polled (ys : List Device) (a b c d e f g h : ℕ) : Type 0 where
   pub at_0 : a ≡ peek (device_at ys 0)
   pub at_1 : b ≡ peek (device_at ys 1)
@@ -100,21 +103,58 @@ pub record Polled (ys : List Device) (a b c d e f g h : ℕ) : Type 0 where
   pub at_7 : h ≡ peek (device_at ys 7)
 
 module _ (ys : List Device) (n : length ys ≡ 8) (a b c d e f g h : ℕ) (polled : Polled ys a b c d e f g h) where
-  pub status_4 : interrupt_status a b c d e f g h 4 ≡ transmit_status ys
+  status_4 : interrupt_status a b c d e f g h 4 ≡ transmit_status ys
   unfolding interrupt_status
   status_4 =
       rw (polled.at_0, polled.at_1, polled.at_2, polled.at_3, polled.at_4, polled.at_5, polled.at_6, polled.at_7)
       (by_status sends_next (λ v. v) (λ d. (let e : peek d % 2 ≡ peek d / 1 % 2 = omega arith in e) ∙ shown_bit 1 (peek d)) ys n)
 
-  pub status_5 : interrupt_status a b c d e f g h 5 ≡ receive_status ys
+  status_5 : interrupt_status a b c d e f g h 5 ≡ receive_status ys
   unfolding interrupt_status
   status_5 =
       rw (polled.at_0, polled.at_1, polled.at_2, polled.at_3, polled.at_4, polled.at_5, polled.at_6, polled.at_7)
       (by_status holds_one (λ v. v / 2) (λ d. shown_bit 2 (peek d)) ys n)
 
-  pub lines_whole : (board : Board) → interrupt_lines board a b c d e f g h ≡ both_bytes (transmit_lines board ys) (receive_lines board ys)
+  lines_so : (board : Board) → interrupt_lines board a b c d e f g h ≡ both_bytes (transmit_lines board ys) (receive_lines board ys)
   unfolding interrupt_lines
-  lines_whole board = ap₂ (λ (t r : ℕ). enabled t board.transmit_mask + enabled r board.receive_mask * 256) status_4 status_5 ∙ swap (transmit_lines board ys) (receive_lines board ys)
+  lines_so board = ap₂ (λ (t r : ℕ). enabled t board.transmit_mask + enabled r board.receive_mask * 256) status_4 status_5 ∙ swap (transmit_lines board ys) (receive_lines board ys)
     where
       swap : (t r : ℕ) → t + r * 256 ≡ r * 256 + t
       swap t r = omega arith
+
+-- each is looked at as the ones before it left the room
+pub polled : {a b c d e f g h : ℕ} (z d0 d1 d2 d3 d4 d5 d6 : Device) (ys : List Device) → length ys ≡ 8
+    → a ≡ peek (get_or ys 0 z)
+    → b ≡ peek (get_or (slice_set ys 0 d0) 1 z)
+    → c ≡ peek (get_or (slice_set (slice_set ys 0 d0) 1 d1) 2 z)
+    → d ≡ peek (get_or (slice_set (slice_set (slice_set ys 0 d0) 1 d1) 2 d2) 3 z)
+    → e ≡ peek (get_or (slice_set (slice_set (slice_set (slice_set ys 0 d0) 1 d1) 2 d2) 3 d3) 4 z)
+    → f ≡ peek (get_or (slice_set (slice_set (slice_set (slice_set (slice_set ys 0 d0) 1 d1) 2 d2) 3 d3) 4 d4) 5 z)
+    → g ≡ peek (get_or (slice_set (slice_set (slice_set (slice_set (slice_set (slice_set ys 0 d0) 1 d1) 2 d2) 3 d3) 4 d4) 5 d5) 6 z)
+    → h ≡ peek (get_or (slice_set (slice_set (slice_set (slice_set (slice_set (slice_set (slice_set ys 0 d0) 1 d1) 2 d2) 3 d3) 4 d4) 5 d5) 6 d6) 7 z)
+    → Polled ys a b c d e f g h
+polled z d0 d1 d2 d3 d4 d5 d6 =
+    of_eight _ (λ _ _ _ _ _ _ _ _. λ q0 q1 q2 q3 q4 q5 q6 q7. record { at_0 = q0; at_1 = q1; at_2 = q2; at_3 = q3; at_4 = q4; at_5 = q5; at_6 = q6; at_7 = q7 })
+
+-- == what the calls answer of them ==
+
+module _ (board : Board) (ys : List Device) (p : Plan) (on : p.ends ≡ false) where
+  pub in_eight : (port : ℕ) → p ≡ plan_in board (length ys) port → length ys ≡ 8
+  in_eight port is = grind (arith, common_steps)
+
+  pub lines_eight : p ≡ plan_interrupts board (length ys) → length ys ≡ 8
+  lines_eight is = grind (arith, common_steps)
+
+  module _ {a b c d e f g h : ℕ} (polled : Polled ys a b c d e f g h) where
+    pub in_whole : (port : ℕ) → p ≡ plan_in board (length ys) port → p.single ≡ false → interrupt_status a b c d e f g h port ≡ answer board ys (In port)
+    unfolding answer said
+    in_whole port is all =
+        let s4 = status_4 ys (in_eight port is) a b c d e f g h polled in
+        let s5 = status_5 ys (in_eight port is) a b c d e f g h polled in
+        grind (arith, common_steps)
+
+    pub lines_whole : p ≡ plan_interrupts board (length ys) → interrupt_lines p.board a b c d e f g h ≡ answer board ys Interrupts
+    unfolding answer said
+    lines_whole is =
+        let s = lines_so ys (lines_eight is) a b c d e f g h polled board in
+        grind (arith, common_steps)
