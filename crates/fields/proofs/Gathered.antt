@@ -107,7 +107,10 @@ gathers [] g before = rw append-nil
 gathers (b ∷ bs) g before = go (eqb b 9) refl (gathers bs)
   where
     go : (t : Bool) → eqb b 9 ≡ t → ((g : List ℕ) (before : List Field) → Gathers bs g before) → Gathers (b ∷ bs) g before
-    go true e ih = rw (push-is, e, append-nil, ← onto_none 9 bs, gathered-more) (ih [] _)
+    go true e ih =
+        let ended : pushes (held (before ++ field_of g ∷ []) (field_of [])) bs ≡ gathered before (field_of (g ++ []) ∷ map field_of (parts 9 bs)) =
+        rw (append-nil, ← onto_none 9 bs, gathered-more) (ih [] _) in
+        rw (push-is, e) ended
     go false e ih = rw (push-is, e, extended_is, onto_first, ih)
 
 -- a line taken byte by byte

@@ -66,6 +66,7 @@ fn digit(b: u8) -> u32
 }
 
 // The number with the digit b behind its digits so far.
+#[tactic(auto, unfolding(crate::specs::Reading::longer))]
 fn longer(f: Field, b: u8) -> u32
     ensures { result ≡ Reading.longer f b }
 {
@@ -87,6 +88,7 @@ fn only(f: Field, b: u8) -> u8
 }
 
 // A field with one more byte.
+#[tactic(auto, unfolding(crate::specs::Reading::extended))]
 fn extended(f: Field, b: u8) -> Field
     ensures { result ≡ Reading.extended f b }
 {
@@ -112,6 +114,7 @@ pub fn empty() -> Fields
 }
 
 // The last field goes to its place among those before.
+#[tactic(auto, unfolding(crate::specs::Reading::placed))]
 fn placed(f: Fields) -> Fields
     ensures { result ≡ Reading.placed f }
 {
@@ -137,6 +140,7 @@ fn placed(f: Fields) -> Fields
 }
 
 // A tab: the last field ends, and an empty one begins.
+#[tactic(auto, unfolding(crate::specs::Reading::parted))]
 fn parted(f: Fields) -> Fields
     ensures { result ≡ Reading.parted f }
 {
@@ -148,6 +152,7 @@ fn parted(f: Fields) -> Fields
 }
 
 // Takes the line's next byte. The newline is not part of a line.
+#[tactic(auto, unfolding(crate::specs::Reading::push))]
 pub fn push(f: Fields, b: u8) -> Fields
     ensures { result ≡ Reading.push f b }
 {

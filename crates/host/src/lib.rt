@@ -229,8 +229,10 @@ fn tick_refused(d: Device, level: u8) -> u16
 // == the acts in place ==
 
 // A device out of range becomes one just reset; answers 1 where it was in range.
+#[tactic(auto, unfolding(ins2651_rules::specs::Ranges::settled))]
 fn make_sound(d: &mut Device) -> u16
-    ensures { (result ≡ bit (in_range d.old)) × (d.new ≡ settled d.old) }
+    ensures answer { result ≡ bit (in_range d.old) }
+    ensures device { d.new ≡ settled d.old }
 {
     let before = *d;
     let sound = ins2651::in_range(before);
@@ -241,7 +243,8 @@ fn make_sound(d: &mut Device) -> u16
 }
 
 fn fetch_status(d: &mut Device, address: u8) -> u16
-    ensures { (result ≡ (read_status d.old).value) × (d.new ≡ (read_status d.old).device) }
+    ensures answer { result ≡ (read_status d.old).value }
+    ensures device { d.new ≡ (read_status d.old).device }
 {
     let before = *d;
     let reply = read_status(before, address);
@@ -250,7 +253,8 @@ fn fetch_status(d: &mut Device, address: u8) -> u16
 }
 
 fn fetch_data(d: &mut Device, address: u8) -> u16
-    ensures { (result ≡ (read_holding d.old).value) × (d.new ≡ (read_holding d.old).device) }
+    ensures answer { result ≡ (read_holding d.old).value }
+    ensures device { d.new ≡ (read_holding d.old).device }
 {
     let before = *d;
     let reply = read_data(before, address);
@@ -259,7 +263,8 @@ fn fetch_data(d: &mut Device, address: u8) -> u16
 }
 
 fn fetch_register(d: &mut Device, address: u8) -> u16
-    ensures { (result ≡ (read_register d.old address).value) × (d.new ≡ (read_register d.old address).device) }
+    ensures answer { result ≡ (read_register d.old address).value }
+    ensures device { d.new ≡ (read_register d.old address).device }
 {
     let before = *d;
     let reply = read_register(before, address);
@@ -268,8 +273,10 @@ fn fetch_register(d: &mut Device, address: u8) -> u16
 }
 
 // Data has an act of its own, ..
+#[tactic(auto, unfolding(ins2651_rules::specs::RegisterReads::read_register))]
 fn fetch_other(d: &mut Device, address: u8) -> u16
-    ensures { (result ≡ (read_register d.old address).value) × (d.new ≡ (read_register d.old address).device) }
+    ensures answer { result ≡ (read_register d.old address).value }
+    ensures device { d.new ≡ (read_register d.old address).device }
 {
     if address == 0 {
         return fetch_data(d, address);
@@ -278,8 +285,10 @@ fn fetch_other(d: &mut Device, address: u8) -> u16
 }
 
 // .. and so has the status, which is read most.
+#[tactic(auto, unfolding(ins2651_rules::specs::RegisterReads::read_register))]
 fn fetch(d: &mut Device, address: u8) -> u16
-    ensures { (result ≡ (read_register d.old address).value) × (d.new ≡ (read_register d.old address).device) }
+    ensures answer { result ≡ (read_register d.old address).value }
+    ensures device { d.new ≡ (read_register d.old address).device }
 {
     if address == 1 {
         return fetch_status(d, address);
@@ -288,7 +297,8 @@ fn fetch(d: &mut Device, address: u8) -> u16
 }
 
 fn store_data(d: &mut Device, address: u8, value: u8) -> u16
-    ensures { (result ≡ 0) × (d.new ≡ write_holding d.old value) }
+    ensures answer { result ≡ 0 }
+    ensures device { d.new ≡ write_holding d.old value }
 {
     let before = *d;
     let reply = write_data(before, address, value);
@@ -297,7 +307,8 @@ fn store_data(d: &mut Device, address: u8, value: u8) -> u16
 }
 
 fn store_register(d: &mut Device, address: u8, value: u8) -> u16
-    ensures { (result ≡ 0) × (d.new ≡ write_register d.old address value) }
+    ensures answer { result ≡ 0 }
+    ensures device { d.new ≡ write_register d.old address value }
 {
     let before = *d;
     let reply = write_register(before, address, value);
@@ -306,8 +317,10 @@ fn store_register(d: &mut Device, address: u8, value: u8) -> u16
 }
 
 // Data has an act of its own.
+#[tactic(auto, unfolding(ins2651_rules::specs::RegisterWrites::write_register))]
 fn store(d: &mut Device, address: u8, value: u8) -> u16
-    ensures { (result ≡ 0) × (d.new ≡ write_register d.old address value) }
+    ensures answer { result ≡ 0 }
+    ensures device { d.new ≡ write_register d.old address value }
 {
     if address == 0 {
         return store_data(d, address, value);
@@ -316,7 +329,8 @@ fn store(d: &mut Device, address: u8, value: u8) -> u16
 }
 
 fn pin(d: &mut Device, dsr: u8, dcd: u8, cts: u8) -> u16
-    ensures { (result ≡ 0) × (d.new ≡ pinned d.old dsr dcd cts) }
+    ensures answer { result ≡ 0 }
+    ensures device { d.new ≡ pinned d.old dsr dcd cts }
 {
     let before = *d;
     let reply = set_pins(before, dsr, dcd, cts);
@@ -325,7 +339,8 @@ fn pin(d: &mut Device, dsr: u8, dcd: u8, cts: u8) -> u16
 }
 
 fn send_tick(d: &mut Device) -> u16
-    ensures { (result ≡ (transmit_tick d.old).level) × (d.new ≡ (transmit_tick d.old).device) }
+    ensures answer { result ≡ (transmit_tick d.old).level }
+    ensures device { d.new ≡ (transmit_tick d.old).device }
 {
     let before = *d;
     let reply = transmit(before);
@@ -334,7 +349,8 @@ fn send_tick(d: &mut Device) -> u16
 }
 
 fn count_send(d: &mut Device) -> u16
-    ensures { (result ≡ 1) × (d.new ≡ send_counted d.old) }
+    ensures answer { result ≡ 1 }
+    ensures device { d.new ≡ send_counted d.old }
 {
     let before = *d;
     let reply = counted_send(before);
@@ -343,8 +359,10 @@ fn count_send(d: &mut Device) -> u16
 }
 
 // A device that rests sends 1 and only counts.
+#[tactic(auto, using(ins2651_rules::proofs::StaysStill::rests_still))]
 fn send(d: &mut Device) -> u16
-    ensures { (result ≡ (transmit_tick d.old).level) × (d.new ≡ (transmit_tick d.old).device) }
+    ensures answer { result ≡ (transmit_tick d.old).level }
+    ensures device { d.new ≡ (transmit_tick d.old).device }
 {
     let before = *d;
     let still = ins2651::rests(before);
@@ -355,7 +373,8 @@ fn send(d: &mut Device) -> u16
 }
 
 fn hear_tick(d: &mut Device, level: u8) -> u16
-    ensures { (result ≡ 0) × (d.new ≡ receive_tick d.old (on level)) }
+    ensures answer { result ≡ 0 }
+    ensures device { d.new ≡ receive_tick d.old (on level) }
 {
     let before = *d;
     let reply = receive(before, level);
@@ -364,7 +383,8 @@ fn hear_tick(d: &mut Device, level: u8) -> u16
 }
 
 fn count_hear(d: &mut Device, level: u8) -> u16
-    ensures { (result ≡ 0) × (d.new ≡ hear_counted d.old) }
+    ensures answer { result ≡ 0 }
+    ensures device { d.new ≡ hear_counted d.old }
 {
     let before = *d;
     let reply = counted_hear(before, level);
@@ -374,7 +394,8 @@ fn count_hear(d: &mut Device, level: u8) -> u16
 
 // A device that searches and hears a 1 only counts.
 fn hear(d: &mut Device, level: u8) -> u16
-    ensures { (result ≡ 0) × (d.new ≡ heard d.old level) }
+    ensures answer { result ≡ 0 }
+    ensures device { d.new ≡ heard d.old level }
 {
     let before = *d;
     let still = ins2651::searches(before, level);
@@ -385,14 +406,16 @@ fn hear(d: &mut Device, level: u8) -> u16
 }
 
 fn both_ticks(d: &mut Device, level: u8) -> u16
-    ensures { (result ≡ (both_ticks d.old (on level)).level) × (d.new ≡ (both_ticks d.old (on level)).device) }
+    ensures answer { result ≡ (both_ticks d.old (on level)).level }
+    ensures device { d.new ≡ (both_ticks d.old (on level)).device }
 {
     hear_tick(d, level);
     send_tick(d)
 }
 
 fn count_both(d: &mut Device, level: u8) -> u16
-    ensures { (result ≡ 1) × (d.new ≡ device_later 1 d.old) }
+    ensures answer { result ≡ 1 }
+    ensures device { d.new ≡ device_later 1 d.old }
 {
     let before = *d;
     let reply = counted_both(before, level);
@@ -402,7 +425,8 @@ fn count_both(d: &mut Device, level: u8) -> u16
 
 // Where both ticks only count, one act counts both.
 fn hear_and_send(d: &mut Device, level: u8) -> u16
-    ensures { (result ≡ (ticked d.old level).answer) × (d.new ≡ (ticked d.old level).device) }
+    ensures answer { result ≡ (ticked d.old level).answer }
+    ensures device { d.new ≡ (ticked d.old level).device }
 {
     let before = *d;
     let still = ins2651::still(before, level);
@@ -422,9 +446,9 @@ const STATUS_AFTER_RESET: u16 = 0;
 const TICKS_AFTER_RESET: u32 = 0;
 
 // Resets the device; answers 0.
-#[unsafe(no_mangle)]
-pub extern "C" fn ins2651_reset(d: &mut Device) -> u16
-    ensures { (result ≡ 0) × (d.new ≡ reset_device) }
+pub fn ins2651_reset(d: &mut Device) -> u16
+    ensures answer { result ≡ 0 }
+    ensures device { d.new ≡ reset_device }
 {
     let before = *d;
     let reply = reset(before);
@@ -433,9 +457,10 @@ pub extern "C" fn ins2651_reset(d: &mut Device) -> u16
 }
 
 // Reads a register; answers 256 times the refusal, and the value.
-#[unsafe(no_mangle)]
-pub extern "C" fn ins2651_read(d: &mut Device, address: u8) -> u16
-    ensures { (result ≡ word (RegisterReads.read d.old address)) × (d.new ≡ (RegisterReads.read d.old address).device) }
+#[tactic(auto, using(ins2651_rules::proofs::Done::register_done), unfolding(ins2651_rules::specs::RegisterReads::read))]
+pub fn ins2651_read(d: &mut Device, address: u8) -> u16
+    ensures answer { result ≡ word (RegisterReads.read d.old address) }
+    ensures device { d.new ≡ (RegisterReads.read d.old address).device }
 {
     let given = *d;
     make_sound(d);
@@ -449,9 +474,10 @@ pub extern "C" fn ins2651_read(d: &mut Device, address: u8) -> u16
 }
 
 // Writes a register; answers its refusal.
-#[unsafe(no_mangle)]
-pub extern "C" fn ins2651_write(d: &mut Device, address: u8, value: u8) -> u16
-    ensures { (result ≡ (RegisterWrites.write d.old address value).refusal) × (d.new ≡ (RegisterWrites.write d.old address value).device) }
+#[tactic(auto, unfolding(ins2651_rules::specs::RegisterWrites::write))]
+pub fn ins2651_write(d: &mut Device, address: u8, value: u8) -> u16
+    ensures answer { result ≡ (RegisterWrites.write d.old address value).refusal }
+    ensures device { d.new ≡ (RegisterWrites.write d.old address value).device }
 {
     let given = *d;
     make_sound(d);
@@ -465,9 +491,10 @@ pub extern "C" fn ins2651_write(d: &mut Device, address: u8, value: u8) -> u16
 }
 
 // Sets the three modem inputs; answers its refusal.
-#[unsafe(no_mangle)]
-pub extern "C" fn ins2651_pins(d: &mut Device, dsr: u8, dcd: u8, cts: u8) -> u16
-    ensures { (result ≡ (set_pins d.old dsr dcd cts).refusal) × (d.new ≡ (set_pins d.old dsr dcd cts).device) }
+#[tactic(auto, unfolding(ins2651_rules::specs::Pinning::set_pins))]
+pub fn ins2651_pins(d: &mut Device, dsr: u8, dcd: u8, cts: u8) -> u16
+    ensures answer { result ≡ (set_pins d.old dsr dcd cts).refusal }
+    ensures device { d.new ≡ (set_pins d.old dsr dcd cts).device }
 {
     let given = *d;
     make_sound(d);
@@ -481,18 +508,20 @@ pub extern "C" fn ins2651_pins(d: &mut Device, dsr: u8, dcd: u8, cts: u8) -> u16
 }
 
 // A transmit tick; answers the level that it sends.
-#[unsafe(no_mangle)]
-pub extern "C" fn ins2651_transmit(d: &mut Device) -> u16
-    ensures { (result ≡ (Ticks.transmit d.old).level) × (d.new ≡ (Ticks.transmit d.old).device) }
+#[tactic(auto, unfolding(ins2651_rules::specs::Ticks::transmit))]
+pub fn ins2651_transmit(d: &mut Device) -> u16
+    ensures answer { result ≡ (Ticks.transmit d.old).level }
+    ensures device { d.new ≡ (Ticks.transmit d.old).device }
 {
     make_sound(d);
     send(d)
 }
 
 // A receive tick with the line at a level; answers its refusal.
-#[unsafe(no_mangle)]
-pub extern "C" fn ins2651_receive(d: &mut Device, level: u8) -> u16
-    ensures { (result ≡ (Ticks.receive d.old level).refusal) × (d.new ≡ (Ticks.receive d.old level).device) }
+#[tactic(auto, using(crate::proofs::Promises::heard_is_tick, ins2651_rules::proofs::Settled::settled_in), unfolding(ins2651_rules::specs::Ticks::receive))]
+pub fn ins2651_receive(d: &mut Device, level: u8) -> u16
+    ensures answer { result ≡ (Ticks.receive d.old level).refusal }
+    ensures device { d.new ≡ (Ticks.receive d.old level).device }
 {
     let given = *d;
     make_sound(d);
@@ -506,9 +535,10 @@ pub extern "C" fn ins2651_receive(d: &mut Device, level: u8) -> u16
 }
 
 // A receive tick with the line at a level, then a transmit tick; answers 256 times the refusal, and the level that it sends.
-#[unsafe(no_mangle)]
-pub extern "C" fn ins2651_tick(d: &mut Device, level: u8) -> u16
-    ensures { (result ≡ word (Ticks.tick d.old level)) × (d.new ≡ (Ticks.tick d.old level).device) }
+#[tactic(auto, using(crate::proofs::Promises::ticked_is_both, ins2651_rules::proofs::Settled::settled_in), unfolding(ins2651_rules::specs::Ticks::tick))]
+pub fn ins2651_tick(d: &mut Device, level: u8) -> u16
+    ensures answer { result ≡ word (Ticks.tick d.old level) }
+    ensures device { d.new ≡ (Ticks.tick d.old level).device }
 {
     let given = *d;
     make_sound(d);
@@ -522,9 +552,10 @@ pub extern "C" fn ins2651_tick(d: &mut Device, level: u8) -> u16
 }
 
 // The levels of the outputs, as the bits of one number; the device stays as it is, in range or not.
-#[unsafe(no_mangle)]
-pub extern "C" fn ins2651_outputs(d: &mut Device) -> u16
-    ensures { (result ≡ levels (Looks.outputs d.old)) × (d.new ≡ d.old) }
+#[tactic(auto, unfolding(ins2651_rules::specs::Looks::outputs, ins2651_rules::specs::Ranges::settled, ins2651_rules::specs::Status::outputs_of))]
+pub fn ins2651_outputs(d: &mut Device) -> u16
+    ensures answer { result ≡ levels (Looks.outputs d.old) }
+    ensures device { d.new ≡ d.old }
 {
     let given = *d;
     let sound = make_sound(d);
@@ -537,9 +568,10 @@ pub extern "C" fn ins2651_outputs(d: &mut Device) -> u16
 }
 
 // The status, which is not read; the device stays as it is, in range or not.
-#[unsafe(no_mangle)]
-pub extern "C" fn ins2651_peek(d: &mut Device) -> u16
-    ensures { (result ≡ Looks.peek d.old) × (d.new ≡ d.old) }
+#[tactic(auto, unfolding(ins2651_rules::specs::Looks::peek, ins2651_rules::specs::Ranges::settled))]
+pub fn ins2651_peek(d: &mut Device) -> u16
+    ensures answer { result ≡ Looks.peek d.old }
+    ensures device { d.new ≡ d.old }
 {
     let given = *d;
     let sound = make_sound(d);
@@ -552,9 +584,10 @@ pub extern "C" fn ins2651_peek(d: &mut Device) -> u16
 }
 
 // 1 where the device is in range, else 0; it stays as it is.
-#[unsafe(no_mangle)]
-pub extern "C" fn ins2651_in_range(d: &mut Device) -> u16
-    ensures { (result ≡ bit (in_range d.old)) × (d.new ≡ d.old) }
+#[tactic(auto, using(ins2651_rules::proofs::Settled::settled_is))]
+pub fn ins2651_in_range(d: &mut Device) -> u16
+    ensures answer { result ≡ bit (in_range d.old) }
+    ensures device { d.new ≡ d.old }
 {
     let given = *d;
     let sound = make_sound(d);
@@ -567,9 +600,10 @@ pub extern "C" fn ins2651_in_range(d: &mut Device) -> u16
 }
 
 // The stamp of the character that a read of address 0 gives (P4). Here and in the next three the device stays as it is, in range or not.
-#[unsafe(no_mangle)]
-pub extern "C" fn ins2651_stamp(d: &mut Device) -> u32
-    ensures { (result ≡ (Stamps.stamp d.old).0) × (d.new ≡ d.old) }
+#[tactic(auto, unfolding(ins2651_rules::specs::Stamps::stamp, ins2651_rules::specs::Ranges::settled))]
+pub fn ins2651_stamp(d: &mut Device) -> u32
+    ensures answer { result ≡ (Stamps.stamp d.old).0 }
+    ensures device { d.new ≡ d.old }
 {
     let given = *d;
     let sound = make_sound(d);
@@ -582,9 +616,10 @@ pub extern "C" fn ins2651_stamp(d: &mut Device) -> u32
 }
 
 // The transmit tally after the first tick of the last frame.
-#[unsafe(no_mangle)]
-pub extern "C" fn ins2651_start(d: &mut Device) -> u32
-    ensures { (result ≡ (Stamps.start d.old).0) × (d.new ≡ d.old) }
+#[tactic(auto, unfolding(ins2651_rules::specs::Stamps::start, ins2651_rules::specs::Ranges::settled))]
+pub fn ins2651_start(d: &mut Device) -> u32
+    ensures answer { result ≡ (Stamps.start d.old).0 }
+    ensures device { d.new ≡ d.old }
 {
     let given = *d;
     let sound = make_sound(d);
@@ -597,9 +632,10 @@ pub extern "C" fn ins2651_start(d: &mut Device) -> u32
 }
 
 // Transmit ticks since reset.
-#[unsafe(no_mangle)]
-pub extern "C" fn ins2651_transmit_tally(d: &mut Device) -> u32
-    ensures { (result ≡ (Stamps.transmit_tally d.old).0) × (d.new ≡ d.old) }
+#[tactic(auto, unfolding(ins2651_rules::specs::Stamps::transmit_tally, ins2651_rules::specs::Ranges::settled))]
+pub fn ins2651_transmit_tally(d: &mut Device) -> u32
+    ensures answer { result ≡ (Stamps.transmit_tally d.old).0 }
+    ensures device { d.new ≡ d.old }
 {
     let given = *d;
     let sound = make_sound(d);
@@ -612,9 +648,10 @@ pub extern "C" fn ins2651_transmit_tally(d: &mut Device) -> u32
 }
 
 // Receive ticks since reset.
-#[unsafe(no_mangle)]
-pub extern "C" fn ins2651_receive_tally(d: &mut Device) -> u32
-    ensures { (result ≡ (Stamps.receive_tally d.old).0) × (d.new ≡ d.old) }
+#[tactic(auto, unfolding(ins2651_rules::specs::Stamps::receive_tally, ins2651_rules::specs::Ranges::settled))]
+pub fn ins2651_receive_tally(d: &mut Device) -> u32
+    ensures answer { result ≡ (Stamps.receive_tally d.old).0 }
+    ensures device { d.new ≡ d.old }
 {
     let given = *d;
     let sound = make_sound(d);

@@ -89,6 +89,7 @@ fn stop_of(m: u8, ticks: u8) -> u8
     2 * ticks
 }
 
+#[tactic(auto, unfolding(ins2651_rules::specs::Modes::format_of))]
 fn format_of(m: u8, internal: bool) -> Format
     ensures { result ≡ format_of m internal }
 {
@@ -212,6 +213,7 @@ fn ready_bits(d: Device) -> u8
 }
 
 // What the stored status byte of a device must be (P7): of any byte that is stored, as no bit goes by that.
+#[tactic(auto, unfolding(ins2651_rules::specs::Status::status_byte))]
 fn status_byte(d: Device) -> u8
     ensures { result ≡ (status_kept d).status }
 {
@@ -238,6 +240,7 @@ fn status_if(happened: bool, d: Device) -> u8
 }
 
 // The levels of the outputs, of a device in range.
+#[tactic(auto, unfolding(ins2651_rules::specs::Status::outputs_of))]
 pub fn outputs_of(d: Device) -> OutputPins
     ensures { result ≡ outputs_of d }
 {
@@ -253,6 +256,7 @@ pub fn outputs_of(d: Device) -> OutputPins
 }
 
 // The levels of the outputs.
+#[tactic(auto, unfolding(ins2651_rules::specs::Looks::outputs))]
 pub fn outputs(d: Device) -> OutputPins
     ensures { result ≡ Looks.outputs d }
 {
@@ -349,6 +353,7 @@ pub fn in_range(d: Device) -> bool
 }
 
 // The rest, of a device with no frame and no character under way, where that is known.
+#[tactic(auto, unfolding(ins2651_rules::specs::Ranges::rests_in_range))]
 pub fn rests_in_range(d: Device) -> bool
     ensures { result ≡ rests_in_range d }
 {
@@ -398,6 +403,7 @@ pub fn reset() -> Device
 }
 
 // The device itself, or one just reset where it is out of range.
+#[tactic(auto, unfolding(ins2651_rules::specs::Ranges::settled))]
 pub fn settle(d: Device) -> Device
     ensures { result ≡ settled d }
 {
@@ -490,6 +496,7 @@ fn read_command(mut d: Device) -> Answer
 }
 
 // A read of a device in range, where nothing is refused.
+#[tactic(auto, unfolding(ins2651_rules::specs::RegisterReads::read_register))]
 pub fn read_register(d: Device, address: u8) -> Answer
     ensures { result ≡ read_register d address }
 {
@@ -506,6 +513,7 @@ pub fn read_register(d: Device, address: u8) -> Answer
 }
 
 // A register read. The range is asked for here and not by `settle`, whose copy would cost more than the read.
+#[tactic(auto, unfolding(ins2651_rules::specs::RegisterReads::read, ins2651_rules::specs::Ranges::settled))]
 pub fn read(d: Device, address: u8) -> Answer
     ensures { result ≡ RegisterReads.read d address }
 {
@@ -561,6 +569,7 @@ fn command_refusal(v: u8) -> u8
 }
 
 // Of the registers of a device in range.
+#[tactic(auto, unfolding(ins2651_rules::specs::Refusals::write_refusal))]
 pub fn write_refusal(r: Registers, address: u8, v: u8) -> u8
     ensures { result ≡ write_refusal r address v }
 {
@@ -686,6 +695,7 @@ fn write_mode(mut d: Device, v: u8) -> Device
 }
 
 // A write of a device in range, where nothing is refused.
+#[tactic(auto, unfolding(ins2651_rules::specs::RegisterWrites::write_register))]
 pub fn write_register(d: Device, address: u8, v: u8) -> Device
     ensures { result ≡ write_register d address v }
 {
@@ -702,6 +712,7 @@ pub fn write_register(d: Device, address: u8, v: u8) -> Device
 }
 
 // A register write.
+#[tactic(auto, unfolding(ins2651_rules::specs::RegisterWrites::write))]
 pub fn write(given: Device, address: u8, v: u8) -> Outcome
     ensures { result ≡ RegisterWrites.write given address v }
 {
@@ -729,6 +740,7 @@ fn changes(p: Pins, dsr: u8, dcd: u8) -> bool
 }
 
 // New levels of a device in range, where none is refused.
+#[tactic(auto, unfolding(ins2651_rules::specs::Pinning::pinned))]
 pub fn pinned(mut d: Device, dsr: u8, dcd: u8, cts: u8) -> Device
     ensures { result ≡ Pinning.pinned d dsr dcd cts }
 {
@@ -747,6 +759,7 @@ pub fn pinned(mut d: Device, dsr: u8, dcd: u8, cts: u8) -> Device
 }
 
 // The three modem inputs take new levels.
+#[tactic(auto, unfolding(ins2651_rules::specs::Pinning::set_pins))]
 pub fn set_pins(d: Device, dsr: u8, dcd: u8, cts: u8) -> Outcome
     ensures { result ≡ set_pins d dsr dcd cts }
 {
@@ -794,6 +807,7 @@ fn sent_by(mut d: Device, s: Sent) -> Ticked
 }
 
 // A transmit tick of a device in range; a run of ticks settles its device once.
+#[tactic(auto, unfolding(ins2651_rules::specs::Ticks::transmit_tick))]
 pub fn transmit_tick(d: Device) -> Ticked
     ensures { result ≡ transmit_tick d }
 {
@@ -801,6 +815,7 @@ pub fn transmit_tick(d: Device) -> Ticked
 }
 
 // A transmit tick: the level sent.
+#[tactic(auto, unfolding(ins2651_rules::specs::Ticks::transmit))]
 pub fn transmit(d: Device) -> Ticked
     ensures { result ≡ Ticks.transmit d }
 {
@@ -856,6 +871,7 @@ fn received_by(mut d: Device, r: Received) -> Device
 }
 
 // A receive tick of a device in range.
+#[tactic(auto, unfolding(ins2651_rules::specs::Ticks::receive_tick))]
 pub fn receive_tick(d: Device, x: bool) -> Device
     ensures { result ≡ receive_tick d x }
 {
@@ -869,6 +885,7 @@ pub fn level_refusal(x: u8) -> u8
 }
 
 // A receive tick: the level on the line.
+#[tactic(auto, unfolding(ins2651_rules::specs::Ticks::receive))]
 pub fn receive(d: Device, x: u8) -> Outcome
     ensures { result ≡ Ticks.receive d x }
 {
@@ -882,6 +899,7 @@ pub fn receive(d: Device, x: u8) -> Outcome
 // == tallies and stamps (P4): of a device out of range those of one just reset ==
 
 // The receive tally after the stop sample's tick of the character that RHR holds; 0 where none has come since reset.
+#[tactic(auto, unfolding(ins2651_rules::specs::Stamps::stamp))]
 pub fn stamp(d: Device) -> RxC
     ensures { result ≡ Stamps.stamp d }
 {
@@ -890,6 +908,7 @@ pub fn stamp(d: Device) -> RxC
 }
 
 // The transmit tally after the first tick of the last frame; 0 where none has begun since reset.
+#[tactic(auto, unfolding(ins2651_rules::specs::Stamps::start))]
 pub fn start(d: Device) -> TxC
     ensures { result ≡ Stamps.start d }
 {
@@ -898,6 +917,7 @@ pub fn start(d: Device) -> TxC
 }
 
 // Transmit ticks since reset.
+#[tactic(auto, unfolding(ins2651_rules::specs::Stamps::transmit_tally))]
 pub fn transmit_tally(d: Device) -> TxC
     ensures { result ≡ transmit_tally d }
 {
@@ -906,6 +926,7 @@ pub fn transmit_tally(d: Device) -> TxC
 }
 
 // Receive ticks since reset: those that were done.
+#[tactic(auto, unfolding(ins2651_rules::specs::Stamps::receive_tally))]
 pub fn receive_tally(d: Device) -> RxC
     ensures { result ≡ receive_tally d }
 {
@@ -952,6 +973,7 @@ fn idle(s: SenderHalf, ready: bool, broken: bool) -> bool
 }
 
 // A transmit tick of it sends 1 and only counts.
+#[tactic(auto, unfolding(ins2651_rules::specs::Still::rests))]
 pub fn rests(d: Device) -> bool
     ensures { result ≡ Still.rests d }
 {
@@ -959,6 +981,7 @@ pub fn rests(d: Device) -> bool
 }
 
 // A receive tick of it with this level only counts, where it is in range.
+#[tactic(auto, unfolding(ins2651_rules::specs::Still::searches))]
 pub fn searches(d: Device, x: u8) -> bool
     ensures { result ≡ Still.searches d x }
 {
@@ -966,6 +989,7 @@ pub fn searches(d: Device, x: u8) -> bool
 }
 
 // Both do.
+#[tactic(auto, unfolding(ins2651_rules::specs::Still::still))]
 pub fn still(d: Device, x: u8) -> bool
     ensures { result ≡ Still.still d x }
 {

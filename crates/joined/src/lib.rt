@@ -51,6 +51,7 @@ fn exchange(a: Ticked, b: Ticked) -> Joined
 }
 
 // The tick of a pair in range.
+#[tactic(auto, unfolding(joined_rules::specs::Joining::joined_tick))]
 fn joined_tick(p: Pair) -> Joined
     ensures { result ≡ joined_tick p }
 {
@@ -58,6 +59,7 @@ fn joined_tick(p: Pair) -> Joined
 }
 
 // A joined tick: both transmit ticks, then each receiver takes the other's level.
+#[tactic(auto, using(joined_rules::proofs::Runs::tick_is))]
 pub fn tick(p: Pair) -> Joined
     ensures { result ≡ Joining.tick p }
 {
@@ -142,6 +144,7 @@ fn ticks_on(p: Pair, n: u16) -> Pair
 }
 
 // Whether no tick changes more of the way from a to b than its tallies.
+#[tactic(auto, unfolding(way_rules::specs::Calm::way_stands))]
 fn way_stands(a: Device, b: Device) -> bool
     ensures { result ≡ way_stands (ends_of a b) (way_of a b) }
 {
@@ -190,6 +193,7 @@ fn ticks_from(p: Pair, n: u16) -> Pair
 }
 
 // n joined ticks at once; 16 where n is above 65535.
+#[tactic(auto, unfolding(joined_rules::specs::Joining::run))]
 pub fn run(p: Pair, n: u32) -> Ran
     ensures { result ≡ Joining.run p n }
 {
@@ -206,6 +210,7 @@ pub fn run(p: Pair, n: u32) -> Ran
 }
 
 // Whether a device holds an unread character: one that is out of range holds none. The range is asked last.
+#[tactic(auto, using(ins2651_ends::proofs::Calls::unread_none, ins2651_ends::proofs::Calls::unread_some))]
 fn holds_unread(d: Device) -> bool
     ensures { result ≡ chip.unread d }
 {
@@ -277,6 +282,7 @@ fn wait_up_to(p: Pair, unit: Unit, limit: u16) -> Waited
 }
 
 // Joined ticks until a unit holds an unread character, or the limit is used up; 21 where that is above 65535.
+#[tactic(auto, unfolding(joined_rules::specs::Waiting::wait))]
 pub fn wait(p: Pair, unit: Unit, limit: u32) -> Waited
     ensures { result ≡ Waiting.wait p unit limit }
 {

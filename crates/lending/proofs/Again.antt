@@ -6,22 +6,23 @@ use mathlib.Core.Path.{◌≡◌, refl, sym, ap, subst, ◌∙◌}
 use Prim.Native.Nat.{ℕ, zero, ◌<◌, ◌^◌}
 use mathlib.Core.List.{[], ◌∷◌, List}
 use seplogic.Ra.Ura.{Ura}
-use seplogic.Ra.TreeShare.{full_share}
-use mir.Syntax.{Width, Name, Ty, ty_int, ty_ref, named, erased, mut, deref, place, copy, Body as Code, seq, assign, addr_of, call}
+use base.Fraction.{full_share}
+use mir.Syntax.{Width, Callee as Name, Ty, ty_int, ty_ref, named, erased, mut, deref, place, copy, Body as Code, seq, assign, addr_of, call}
 use mir.Val.{Val, vint, vptr, bits}
 use base.Logic.{SProp, ent, sep, guard, guard_i, id⊢, via, fst∗, snd∗, ex_e}
 use base.Stored.{Gv}
-use base.Fml.{GName, Lft, Share, ftrue, flft, fres, fat, froom}
+use base.Fml.{GName, Lft, Share, ftrue, flft, fres, fbor, fat, froom}
 use prog.Wp.{Env, Calls, Loops}
 use types.Logic.{Logic, sem}
 use contract.Monad.{fact, fact_use}
 use types.Kit.{Item, Post, Go, Seq, runs, ‵, raw, given, ◌⊛◌, some, later, ◌$◌, ◌∵◌, !, qed, move, drop, use0, use1, use2, use3, split, join, pick, learn, rewrite, frame, await, done}
 use types.Tokens.{lft_new, lft_end}
 use types.Run.{Opds, look, init, forget, stop, hop, load, addr, and_then, assigns, land}
+use types.SemTy.{Body}
 use sound.WpLaws.{FmC}
 use denote.RattleType.{flat, owns}
 use denote.Laws.{Is, shows}
-use denote.Memory.{pointee}
+use denote.Memory.{mem, pointee}
 use denote.Plain.{UInt}
 use denote.Signature.{types_at}
 use denote.Lend.{LentAgain, lends_again, comes_back}
@@ -70,6 +71,10 @@ module _ (T : Lendable) (w wide : Width) {M : Type 1} {𝓤 : Ura M} (𝓛 : Log
   abbrev ys : ℕ → Numbers n
   ys α = numbers w 1 n (α ∷ [], tt) (denots w 1 n (α ∷ [], tt) xs)
 
+  -- the borrow that it hands back with what it left
+  abbrev lies : ℕ → GName → SProp 𝓤
+  lies α δ = sem 𝓛 (fbor (α ∷ []) (Body (mem (row_of T)) b o δ))
+
   -- of its answer and of what it left
   told : (α : ℕ) (δ : GName) (r : ℕ) → ent 𝓤 (ensured 𝓛 (lent T w wide n) (Lent T w wide 𝓤 n P) (α ∷ [], tt) (passing α δ) tt r)
       (guard 𝓤 (r ≡ P.answers h (ys α)) (A.res δ (coded T (P.leaves h (ys α)))))
@@ -78,7 +83,8 @@ module _ (T : Lendable) (w wide : Width) {M : Type 1} {𝓤 : Ura M} (𝓛 : Log
       let E : SProp 𝓤 = fact 𝓤 ((r ≡ P.answers h (ys α)) × (ws.0 ≡ P.leaves h (ys α))) in
       fact_use 𝓤 ((r ≡ P.answers h (ys α)) × (ws.0 ≡ P.leaves h (ys α))) (snd∗ 𝓤 L E) (λ e.
       subst (λ (d : Value T). ent 𝓤 (sep 𝓤 L E) (guard 𝓤 (r ≡ P.answers h (ys α)) (A.res δ (coded T d)))) e.1
-      (via 𝓤 L (fst∗ 𝓤 L E) (via 𝓤 (A.res δ (coded T ws.0)) (fst∗ 𝓤 (A.res δ (coded T ws.0)) (sem 𝓛 (lasts_of (α ∷ [], tt) (slots w 1 n) (kept_numbers w 1 n) (passing α δ).1 ws.1))) (guard_i 𝓤 (r ≡ P.answers h (ys α)) (A.res δ (coded T ws.0)) e.0)))))
+      (via 𝓤 L (fst∗ 𝓤 L E) (via 𝓤 (sep 𝓤 (A.res δ (coded T ws.0)) (lies α δ)) (fst∗ 𝓤 (sep 𝓤 (A.res δ (coded T ws.0)) (lies α δ)) (sem 𝓛 (lasts_of (α ∷ [], tt) (slots w 1 n) (kept_numbers w 1 n) (passing α δ).1 ws.1)))
+      (via 𝓤 (A.res δ (coded T ws.0)) (fst∗ 𝓤 (A.res δ (coded T ws.0)) (lies α δ)) (guard_i 𝓤 (r ≡ P.answers h (ys α)) (A.res δ (coded T ws.0)) e.0))))))
 
   -- the call itself, of a reference that was made for it, in block t; the reply goes to block d, and the numbers stand from local `args` on
   module _ (t d : ℕ) (ks : Numbers n) (args α : ℕ) (δ : GName) where

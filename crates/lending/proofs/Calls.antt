@@ -5,7 +5,7 @@ use mathlib.Core.Path.{◌≡◌}
 use Prim.Native.Nat.{ℕ, suc}
 use mathlib.Core.List.{[], ◌∷◌, List}
 use seplogic.Ra.Ura.{Ura}
-use mir.Syntax.{Width, Name, local, value_local, Fn, ty_int, deref, field, place, Opd as Operand, copy, rv_opd, Body as Code, seq, assign, call, return}
+use mir.Syntax.{Width, Callee as Name, local, value_local, Fn, ty_int, deref, field, place, Opd as Operand, copy, rv_opd, Body as Code, seq, assign, call, return}
 use base.Logic.{ent, emp, snd∗, ex_e}
 use types.Logic.{Logic, sem}
 use contract.Monad.{fact}
@@ -58,9 +58,9 @@ module _ (T : Lendable) (w : Width) where
     gave x r = ex_e 𝓤 _ (λ ws. snd∗ 𝓤 (sem 𝓛 (lasts (taking U n) tt x ws)) (fact 𝓤 (r ≡ F x.0 (numbers w 0 n tt x.1))))
 
     pub given_over : (h : Value T) (xs : Numbers n) → Fit w n xs
-        → ent 𝓤 (sem 𝓛 ((row_of T).own h (vals T h))) ((Taking 𝓛 U n F).pre (taken (h, denots w 0 n tt xs) (vals T h, spelled w 0 n tt xs)))
+        → ent 𝓤 (sem 𝓛 ((row_of T).own_val h (vals T h))) ((Taking 𝓛 U n F).pre (taken (h, denots w 0 n tt xs) (vals T h, spelled w 0 n tt xs)))
     given_over h xs fits =
-        qed 𝓛 (‵ ((row_of T).own h (vals T h)) ∷ []) ∵ use0 𝓛 (‵ (owns (types_at (slots w 0 n) tt) (denots w 0 n tt xs) (spelled w 0 n tt xs))) (own_numbers w 𝓛 0 n tt xs fits) $
+        qed 𝓛 (‵ ((row_of T).own_val h (vals T h)) ∷ []) ∵ use0 𝓛 (‵ (owns (types_at (slots w 0 n) tt) (denots w 0 n tt xs) (spelled w 0 n tt xs))) (own_numbers w 𝓛 0 n tt xs fits) $
         move ! (1 ∷ 0 ∷ []) $ join ! $ nothing ! $ join ! $ frame ! $ done !
 
 -- == a lent call ==
@@ -115,22 +115,25 @@ module _ (T : Lendable) (R : Replying T) where
     abbrev pub Callee : Contract 𝓤
     Callee = Taking T w 𝓛 (reply_row T R) n F
 
-  -- the locals are the answer, the reference, the numbers, the copy and the reply
-  abbrev pub lending : ℕ → Name → ℕ → List Operand → Code → Code
-  lending copied g replied args rest =
+  -- the locals are the answer, the reference, the numbers, the copy, the reply and the value of the reply, which is stored
+  abbrev pub lending : ℕ → Name → ℕ → ℕ → List Operand → Code → Code
+  lending copied g replied stored args rest =
       seq (assign (place copied []) (rv_opd (copy (place 1 (deref (mir_of T) ∷ [])))))
       (seq (call g (copy (place copied []) ∷ args) (place replied []))
-      (seq (assign (place 1 (deref (mir_of T) ∷ [])) (rv_opd (copy (place replied (field 1 ∷ [])))))
+      (seq (assign (place stored []) (rv_opd (copy (place replied (field 1 ∷ [])))))
+      (seq (assign (place 1 (deref (mir_of T) ∷ [])) (rv_opd (copy (place stored []))))
       (seq (assign (place 0 []) (rv_opd (copy (place replied (field 0 ∷ [])))))
-      rest)))
+      rest))))
 
   abbrev pub function : Width → ℕ → Name → Fn
   function w n g =
       record {
         lifetimes = 1;
         outlives = [];
+        ty_params = [];
+        givens = 0;
         params = suc n;
         locals = local (ty_int R.wide) value_local ∷ local (reference T) value_local
-            ∷ number_locals w n (local (mir_of T) value_local ∷ local (reply_mir T R) value_local ∷ []);
-        body = lending (suc (suc (past n 0))) g (suc (suc (past n 1))) (copies 2 n) return;
+            ∷ number_locals w n (local (mir_of T) value_local ∷ local (reply_mir T R) value_local ∷ local (mir_of T) value_local ∷ []);
+        body = lending (suc (suc (past n 0))) g (suc (suc (past n 1))) (suc (suc (past n 2))) (copies 2 n) return;
       }

@@ -71,7 +71,7 @@ module _ (T : Lendable) (w wide : Width) {M : Type 1} {𝓤 : Ura M} (𝓛 : Log
       walks κs qs a are =
           via 𝓤 _ (enters κs.0 qs.0 a.0.ref_ptr.0 a.0.ref_ptr.1 a.0.ghost_name a.0.now a.1 (said κs a).1)
           (subst (λ (vs : List Val). ent 𝓤 (Has T 𝓛 κs.0 qs.0 a.0.ref_ptr.0 a.0.ref_ptr.1 a.0.ghost_name a.0.now)
-          (WpFn 𝓤 H 𝓣.C 𝓣.Λ fn (vptr a.0.ptr.0 a.0.ptr.1 ∷ vs) ((walk_of 𝓛 (lent T w wide n) (stayed T w wide n) (Lent T w wide 𝓤 n P)).post ((κs, qs, tt, a, said κs a), tt)))) (passed_are w 1 n κs a.1)
+          (WpFn 𝓤 H 𝓣.C 𝓣.Λ fn (vptr a.0.ref_ptr.0 a.0.ref_ptr.1 ∷ vs) ((walk_of 𝓛 (lent T w wide n) (stayed T w wide n) (Lent T w wide 𝓤 n P)).post ((κs, qs, tt, a, said κs a), tt)))) (passed_are w 1 n κs a.1)
           (walk κs.0 qs.0 a.0.ref_ptr.0 a.0.ref_ptr.1 a.0.ghost_name a.0.now (numbers w 1 n κs a.1) (fit_all w 1 n κs a.1 (said κs a).1 are.1) _
           (ends κs.0 qs.0 a.0.ref_ptr.0 a.0.ref_ptr.1 a.0.ghost_name a.0.now a.1 (said κs a).1)))
 

@@ -1,18 +1,22 @@
 -- A struct that can be lent, and one that replies a number and such a struct: what a walk needs of them, whatever fields the lent one has and however wide
 -- the number is.
 -- Assumes nothing.
-use mathlib.Core.Path.{◌≡◌}
+use mathlib.Core.Path.{◌≡◌, refl, ap, sym, ◌∙◌}
+use mathlib.Core.HLevel.{is_prop→PathP}
 use Prim.Native.Nat.{ℕ, ◌<◌, ◌^◌}
 use mathlib.Core.List.{[], ◌∷◌, List}
 use mir.Syntax.{Width, Sym, Ty, ty_ref, named, mut}
 use mir.Val.{Val, vint, vptr, bits}
+use base.Stored.{Coded-set, coded_unit, coded_ℕ, coded×}
 use base.Fml.{GName, Lft, Fml}
 use denote.RattleType.{RattleType, Denots}
 use denote.Laws.{Is}
-use denote.Plain.{uint_Tells, uint_Lawful}
+use denote.Plain.{UInt, uint_Tells, uint_Lawful}
+use denote.Param.Drops.{still_Drops}
 use denote.Memory.{pointee}
 use denote.Ref.{MutBor, MutRef}
 use denote.Struct.Field.{Field, rows, uint_field}
+use denote.Struct.Values.{Values, intos}
 use denote.Struct.Declared.{Declared, fields, shape, row, field}
 use denote.Struct.Struct.{layout, Plains}
 use denote.Struct.Laws as LL
@@ -72,11 +76,43 @@ pub record Replying (T : Lendable) : Type 2 where
 
 -- the laws of a number as a field, of any width: the library has them by name for each
 abbrev number_laws : (w : Width) → LL.FLaws (uint_field w)
-number_laws w = record { val = vint w; tells = uint_Tells w; low = vint w; low-is = uint_Tells w; lawful = λ 𝓛. uint_Lawful 𝓛 w }
+number_laws w = record { val = vint w; tells = uint_Tells w; low = vint w; low-is = uint_Tells w; lawful = λ 𝓛. uint_Lawful 𝓛 w; drops = λ 𝓛. still_Drops 𝓛 (UInt w) (λ k. refl) }
 
 module _ (T : Lendable) (R : Replying T) where
+  abbrev FieldValues : Type 0
+  FieldValues = Values (replied T R.wide)
+
+  abbrev field_values : R.Reply → FieldValues
+  field_values r = (R.answer r, (R.value r, tt))
+
+  -- a reply is its answer and its value
+  apart : (x y : R.Reply) → field_values x ≡ field_values y → x ≡ y
+  apart x y e = R.told_apart x y (ap (intos (replied T R.wide)) e)
+
+  -- an answer and a value are those of at most one reply
+  abbrev Made : FieldValues → Type 0
+  Made v = (r : R.Reply) × (field_values r ≡ v)
+
+  parts_set : IsSet FieldValues
+  parts_set = Coded-set (coded× coded_ℕ (coded× (row_of T).coded coded_unit))
+
+  pub made_once : (v : FieldValues) → IsProp (Made v)
+  made_once v p q = λ i. (apart p.0 q.0 (p.1 ∙ sym q.1) i, is_prop→PathP (λ j. field_values (apart p.0 q.0 (p.1 ∙ sym q.1) j) ≡ v) (λ j. parts_set (field_values (apart p.0 q.0 (p.1 ∙ sym q.1) j)) v) p.1 q.1 i)
+
   abbrev pub reply_type : Declared
-  reply_type = record { name = R.name; args = []; parts = replied T R.wide; D = R.Reply; to = λ r. reply_of T R.wide (R.answer r) (R.value r); to_one = R.told_apart }
+  reply_type = record {
+    name = R.name;
+    args = [];
+    types = [];
+    parts = replied T R.wide;
+    D = R.Reply;
+    to = λ r. reply_of T R.wide (R.answer r) (R.value r);
+    to_one = R.told_apart;
+    as_values = field_values;
+    to_is = λ r. refl;
+    cover = record { Ghost = Made; ghosts = λ r. (r, refl); make = λ v g. g.0; eta = λ r. refl; beta = λ v g. g.1 };
+    propositions = made_once;
+  }
 
   abbrev pub reply_laws : LL.Laws reply_type
   reply_laws = (number_laws R.wide, (LL.field_laws T.type T.laws T.lowers, tt))

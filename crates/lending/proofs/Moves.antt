@@ -5,9 +5,9 @@ use mathlib.Core.Path.{◌≡◌, refl, sym, ap, subst, ◌∙◌}
 use Prim.Native.Nat.{ℕ, zero}
 use mathlib.Core.List.{[], ◌∷◌, List}
 use seplogic.Ra.Ura.{Ura}
-use seplogic.Ra.TreeShare.{full_share}
+use base.Fraction.{full_share}
 use lib.Dec.{T as Yes}
-use mir.Syntax.{Width, Name, Ty, ty_int, ty_bool, deref, place, copy, rv_opd, Body as Code, seq, assign, call}
+use mir.Syntax.{Width, Callee as Name, Ty, ty_int, ty_bool, deref, place, copy, rv_opd, Body as Code, seq, assign, call}
 use mir.Val.{Val, vint, vbool, vptr, has_ty, WT}
 use base.Logic.{id⊢}
 use base.Fml.{GName, Lft, Share, ftrue, flft, fat, froom}
@@ -107,7 +107,7 @@ module _ (T : Lendable) (w : Width) {M : Type 1} {𝓤 : Ura M} (𝓛 : Logic �
   asks {E} {C} {Λ} {p} {Γ} {g} {i} {j} at_copy at-reply stand fm known was fits k =
       owned ! (row_of T) (Is (row_of T)) (LL.makes T.type T.plain 𝓛) h (vals T h) was $ use1 𝓛 (raw ((Taking T w 𝓛 U n F).pre asked)) (given_over T w 𝓛 U n F h xs fits) $
       calls_at ! fm (Taking T w 𝓛 U n F) known asked (reads E i at_copy stand Γ) (λ v.
-      use1 𝓛 (later (some (λ (r : U.Denot). (‵ ftrue ⊛ ‵ (U.own r (v ∷ []))) ⊛ raw (ensured 𝓛 (taking T w U n) (Takes T w 𝓛 U n F) tt (h, denots w 0 n tt xs) tt r)))) (id⊢ 𝓤 _) $ await ! tt $ pick ! (λ r.
+      use1 𝓛 (later (some (λ (r : U.Denot). (‵ ftrue ⊛ ‵ (U.own_val r (v ∷ []))) ⊛ raw (ensured 𝓛 (taking T w U n) (Takes T w 𝓛 U n F) tt (h, denots w 0 n tt xs) tt r)))) (id⊢ 𝓤 _) $ await ! tt $ pick ! (λ r.
       split ! $ move ! (1 ∷ []) $ use1 𝓛 (raw (fact 𝓤 (r ≡ F h (numbers w 0 n tt (denots w 0 n tt xs))))) (gave T w 𝓛 U n F (h, denots w 0 n tt xs) r) $ heard ! (r ≡ F h (numbers w 0 n tt (denots w 0 n tt xs))) (λ e. split ! $ drop ! $
       facts ! U (Is U) (shows 𝓛 U) r (v ∷ []) (λ is.
       land ! (at-reply _ _ _ (stop !)) (init ! 1 refl (one.typed r v is)) $

@@ -5,7 +5,7 @@ use mathlib.Core.Path.{◌≡◌, refl, ap, sym, subst}
 use Prim.Native.Nat.{ℕ, zero, suc, ◌<◌, ◌^◌}
 use mathlib.Core.List.{[], ◌∷◌, List}
 use seplogic.Ra.Ura.{Ura}
-use seplogic.Ra.TreeShare.{full_share}
+use base.Fraction.{full_share}
 use mir.Syntax.{Width, Local, local, value_local, Ty, ty_int, Step as PStep, place, Opd as Operand, copy, ty_enum, ttnil}
 use lib.Dec.{T, eqb_refl}
 use lib.ListN.{get_or}

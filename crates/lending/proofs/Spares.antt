@@ -6,9 +6,9 @@ use mathlib.Core.Bool.{Bool, true, false}
 use mathlib.Core.List.{[], ◌∷◌, List}
 use Prim.Native.Nat.{ℕ, zero, suc, ◌<◌, ◌^◌}
 use seplogic.Ra.Ura.{Ura}
-use seplogic.Ra.TreeShare.{full_share}
+use base.Fraction.{full_share}
 use lib.Dec.{T as Yes, ltb}
-use mir.Syntax.{Width, Name, Fn, ty_int, ty_bool, deref, place, copy, int, rv_opd, local, value_local, Body as Code, seq, assign, cond, skip, call, return}
+use mir.Syntax.{Width, Callee as Name, Fn, ty_int, ty_bool, deref, place, copy, int, rv_opd, local, value_local, Body as Code, seq, assign, cond, skip, call, return}
 use mir.Val.{vint, vptr, bits}
 use base.Fml.{flft, fat, froom}
 use prog.Wp.{Env, WpFn, Tables}
@@ -35,6 +35,8 @@ spared_by T w wide n puts test act =
     record {
       lifetimes = 1;
       outlives = [];
+      ty_params = [];
+      givens = 0;
       params = suc n;
       locals = local (ty_int wide) value_local ∷ local (reference T) value_local
           ∷ number_locals w n (local (mir_of T) value_local ∷ local ty_bool value_local ∷ local ty_bool value_local ∷ local (reborrow T) value_local ∷ []);
@@ -87,7 +89,7 @@ module _ (T : Lendable) (w wide : Width) {M : Type 1} {𝓤 : Ura M} (𝓛 : Log
         alloc1 ! (λ a. alloc1 ! (λ l. alloc_numbers w 𝓛 n (λ ks. alloc1 ! (λ c. alloc1 ! (λ y. alloc1 ! (λ z. alloc1 ! (λ t. alloc0 ! $ params1 ! $
         pass1 ! (init ! 9 refl (tt, tt)) $ move ! (8 ∷ []) $ pass_numbers w 𝓛 n ks xs (others c y z t) fits (
         let E : Env 𝓤 H = (ty_int wide, a) ∷ (reference T, l) ∷ env w n ks (others c y z t) in
-        let stand : AllStand w E 2 n ks = further w n ks (ty_int wide, a) _ 1 (further w n ks (reference T, l) _ 0 (all_stand w n ks _)) in
+        let stand : AllStand w E 2 n ks = further w n ks (ty_int wide, a) ((reference T, l) ∷ env w n ks (others c y z t)) 1 (further w n ks (reference T, l) (env w n ks (others c y z t)) 0 (all_stand w n ks (others c y z t))) in
         let at_a = stands 𝓛 E 0 (ty_int wide) a refl in
         let at-l = stands 𝓛 E 1 (reference T) l refl in
         let at_c = stands 𝓛 E (suc (suc (past n 0))) (mir_of T) c (behind w n ks _ 0 (mir_of T) c refl) in

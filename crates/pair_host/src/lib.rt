@@ -45,6 +45,7 @@ fn run_counts(p: Pair, n: u32) -> bool
     (n <= 65535) & joined::stands(p)
 }
 
+#[tactic(auto, using(crate::proofs::Promises::standing_run))]
 fn run(p: Pair, n: u32) -> PairReply
     ensures { result ≡ Replies.run p n }
 {
@@ -80,6 +81,7 @@ fn wait_counts(p: Pair, unit: u32, limit: u32) -> bool
     (limit <= 65535) & !joined::unread(p, unit_of(unit)) & joined::stands(p)
 }
 
+#[tactic(auto, using(crate::proofs::Promises::standing_wait))]
 fn wait(p: Pair, unit: u32, limit: u32) -> WaitReply
     ensures { result ≡ Replies.wait p unit limit }
 {
@@ -105,7 +107,7 @@ fn wait_spared(p: Pair, unit: u32, limit: u32) -> bool
     (65535 < limit) | (limit == 0) | joined::unread(p, unit_of(unit))
 }
 
-// What a wait that leaves the pair as it is answers. (It takes all that a wait is given, so that one walk serves it and `wait_spared`.)
+// What a wait that leaves the pair as it is answers. (It takes all that a wait is given, as `wait_spared` does.)
 fn wait_told(p: Pair, unit: u32, limit: u32) -> u32
     ensures { result ≡ Replies.wait_told p unit limit }
 {
@@ -113,7 +115,8 @@ fn wait_told(p: Pair, unit: u32, limit: u32) -> u32
 }
 
 fn wait_in_place(p: &mut Pair, unit: u32, limit: u32) -> u32
-    ensures { (result ≡ wait_answer (Waiting.wait p.old (unit_of unit) limit)) × (p.new ≡ (Waiting.wait p.old (unit_of unit) limit).pair) }
+    ensures answer { result ≡ wait_answer (Waiting.wait p.old (unit_of unit) limit) }
+    ensures pair { p.new ≡ (Waiting.wait p.old (unit_of unit) limit).pair }
 {
     let before = *p;
     let reply = wait(before, unit, limit);
@@ -122,9 +125,9 @@ fn wait_in_place(p: &mut Pair, unit: u32, limit: u32) -> u32
 }
 
 // A joined tick; answers the levels sent: 1 where `a` sent a 1, plus 2 where `b` did.
-#[unsafe(no_mangle)]
-pub extern "C" fn ins2651_joined_tick(p: &mut Pair) -> u16
-    ensures { (result ≡ levels_sent (Joining.tick p.old)) × (p.new ≡ (Joining.tick p.old).pair) }
+pub fn ins2651_joined_tick(p: &mut Pair) -> u16
+    ensures answer { result ≡ levels_sent (Joining.tick p.old) }
+    ensures pair { p.new ≡ (Joining.tick p.old).pair }
 {
     let before = *p;
     let reply = tick(before);
@@ -133,9 +136,9 @@ pub extern "C" fn ins2651_joined_tick(p: &mut Pair) -> u16
 }
 
 // n joined ticks at once; answers its refusal.
-#[unsafe(no_mangle)]
-pub extern "C" fn ins2651_joined_run(p: &mut Pair, n: u32) -> u16
-    ensures { (result ≡ (Joining.run p.old n).refusal) × (p.new ≡ (Joining.run p.old n).pair) }
+pub fn ins2651_joined_run(p: &mut Pair, n: u32) -> u16
+    ensures answer { result ≡ (Joining.run p.old n).refusal }
+    ensures pair { p.new ≡ (Joining.run p.old n).pair }
 {
     let before = *p;
     let reply = run(before, n);
@@ -145,9 +148,10 @@ pub extern "C" fn ins2651_joined_run(p: &mut Pair, n: u32) -> u16
 
 // Joined ticks until a unit holds an unread character, or the limit is used up; answers 65536 times its refusal plus their count. One
 // that spends no tick stores nothing.
-#[unsafe(no_mangle)]
-pub extern "C" fn ins2651_joined_wait(p: &mut Pair, unit: u32, limit: u32) -> u32
-    ensures { (result ≡ wait_answer (Waiting.wait p.old (unit_of unit) limit)) × (p.new ≡ (Waiting.wait p.old (unit_of unit) limit).pair) }
+#[tactic(auto, using(crate::proofs::Promises::spared_wait))]
+pub fn ins2651_joined_wait(p: &mut Pair, unit: u32, limit: u32) -> u32
+    ensures answer { result ≡ wait_answer (Waiting.wait p.old (unit_of unit) limit) }
+    ensures pair { p.new ≡ (Waiting.wait p.old (unit_of unit) limit).pair }
 {
     let before = *p;
     let still = wait_spared(before, unit, limit);

@@ -52,6 +52,7 @@ fn limit_of(f: Field) -> u32
 }
 
 // Z unit; L count.
+#[tactic(auto, unfolding(crate::specs::Records::two))]
 fn two(k: Field, u: Field) -> Record
     ensures { result ≡ Records.two k u }
 {
@@ -67,6 +68,7 @@ fn two(k: Field, u: Field) -> Record
 }
 
 // R unit addr; B unit limit.
+#[tactic(auto, unfolding(crate::specs::Records::three))]
 fn three(k: Field, u: Field, a: Field) -> Record
     ensures { result ≡ Records.three k u a }
 {
@@ -83,6 +85,7 @@ fn three(k: Field, u: Field, a: Field) -> Record
 }
 
 // W unit addr value.
+#[tactic(auto, unfolding(crate::specs::Records::four))]
 fn four(k: Field, u: Field, a: Field, v: Field) -> Record
     ensures { result ≡ Records.four k u a v }
 {
@@ -94,6 +97,7 @@ fn four(k: Field, u: Field, a: Field, v: Field) -> Record
 }
 
 // P unit dsr dcd cts.
+#[tactic(auto, unfolding(crate::specs::Records::five))]
 fn five(k: Field, u: Field, dsr: Field, dcd: Field, cts: Field) -> Record
     ensures { result ≡ Records.five k u dsr dcd cts }
 {
@@ -109,6 +113,7 @@ fn five(k: Field, u: Field, dsr: Field, dcd: Field, cts: Field) -> Record
 }
 
 // The record of the line that these are the fields of.
+#[tactic(auto, unfolding(crate::specs::Records::held_record))]
 pub fn record_of(f: Fields) -> Record
     ensures { result ≡ Records.held_record f }
 {

@@ -135,6 +135,7 @@ fn wide_byte(n: u8) -> u32
     n as u32
 }
 
+#[tactic(auto, using(crate::proofs::Puts::behind), unfolding(crate::specs::Text::refusal_text))]
 fn say_refusal(out: &mut [u8], at: usize, line: u16, n: u8) -> usize
     requires { at + 32 ≤ length out.old }
     ensures { Put out.old at (Text.refusal_text line n) out.new result }
@@ -145,6 +146,7 @@ fn say_refusal(out: &mut [u8], at: usize, line: u16, n: u8) -> usize
     numbers(out, e, l, m)
 }
 
+#[tactic(auto, using(crate::proofs::Puts::behind), unfolding(crate::specs::Text::value_text))]
 fn say_value(out: &mut [u8], at: usize, unit: u8, address: u8, v: u8) -> usize
     requires { at + 32 ≤ length out.old }
     ensures { Put out.old at (Text.value_text unit address v) out.new result }
@@ -176,6 +178,7 @@ fn say_wait(out: &mut [u8], at: usize, unit: u8, count: u16) -> usize
     put(out, f, b'\n')
 }
 
+#[tactic(auto, using(crate::proofs::Puts::behind), unfolding(crate::specs::Text::counts_text))]
 fn say_counts(out: &mut [u8], at: usize, lines: u16, refusals: u16) -> usize
     requires { at + 32 ≤ length out.old }
     ensures { Put out.old at (Text.counts_text lines refusals) out.new result }
@@ -186,6 +189,7 @@ fn say_counts(out: &mut [u8], at: usize, lines: u16, refusals: u16) -> usize
     numbers(out, e, m, n)
 }
 
+#[tactic(auto, using(crate::proofs::Puts::none_put), unfolding(crate::specs::Text::row_text))]
 fn say(out: &mut [u8], at: usize, row: Row) -> usize
     requires { at + 32 ≤ length out.old }
     ensures { Put out.old at (Text.row_text row) out.new result }

@@ -191,6 +191,7 @@ fn waiting(p: Pair, unit: u8, limit: u32) -> Reply
 }
 
 // What a record does. A line that has none's shape is refusal 6.
+#[tactic(auto, unfolding(session_rules::specs::Calls::obey))]
 fn obey(p: Pair, r: Record) -> Reply
     ensures { result ≡ Calls.obey p r }
 {
@@ -252,6 +253,7 @@ fn longer(n: u8) -> u8
 }
 
 // The reply to the line under way.
+#[tactic(auto, unfolding(session_rules::specs::Bytes::held_reply))]
 fn held_reply(s: Session) -> Reply
     ensures { result ≡ Bytes.held_reply s }
 {

@@ -43,7 +43,10 @@ lines_are [] h = rw append-nil
 lines_are (b ∷ bs) h = go (eqb b 10) refl (lines_are bs)
   where
     go : (t : Bool) → eqb b 10 ≡ t → ((h : List ℕ) → lines_from h bs ≡ filled (onto h (parts 10 bs))) → lines_from h (b ∷ bs) ≡ filled (onto h (parts 10 (b ∷ bs)))
-    go true e ih = rw (e, append-nil, ← onto_none 10 bs, filled_more) (ap (λ (x : List (List ℕ)). h ∷ x) (ih []))
+    go true e ih =
+        let ended : h ∷ lines_from [] bs ≡ filled ((h ++ []) ∷ parts 10 bs) =
+        rw (append-nil, ← onto_none 10 bs, filled_more) (ap (λ (x : List (List ℕ)). h ∷ x) (ih [])) in
+        rw e ended
     go false e ih = rw (e, onto_first, ih)
 
 input_lines : (input : List ℕ) → lines_from [] input ≡ lines_of input

@@ -71,7 +71,7 @@ sent_more {input} {h} o p =
 
 sent : {input : List ℕ} {h : Host} (os : List Offer) → Sent input h → Sent input (offers h os)
 sent [] p = p
-sent (o ∷ os) p = sent os (sent_more o p)
+sent {h = h} (o ∷ os) p = sent {h = offer h o} os (sent_more o p)
 
 -- == the whole ==
 

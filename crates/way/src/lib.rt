@@ -266,6 +266,7 @@ fn look(x: bool, w: Way) -> Way
 }
 
 // The receiver's tick, which the tally has counted.
+#[tactic(auto, unfolding(line_rules::specs::Receiving::sample))]
 fn hear(e: Ends, x: bool, w: Way) -> Way
     ensures { result ≡ heard_by w (hearing w.receiver e.live e.hear x) }
 {
@@ -350,6 +351,7 @@ fn places_left(g: Frame) -> u16
     (length - place - 1) as u16
 }
 
+#[tactic(auto, unfolding(way_rules::specs::Calm::sender_calm))]
 fn sender_calm(e: Ends, s: SenderHalf) -> u16
     ensures { result ≡ sender_calm e s }
 {
@@ -423,6 +425,7 @@ fn sender_keeps(e: Ends, s: SenderHalf, p: u8) -> u16
 }
 
 // What k ticks that only count move in a sender, beside its tally.
+#[tactic(auto, unfolding(way_rules::specs::Calm::sender_moved))]
 fn sender_moved(e: Ends, k: u16, mut s: SenderHalf) -> SenderHalf
     ensures { result ≡ sender_moved e k s }
 {
@@ -440,6 +443,7 @@ fn sender_moved(e: Ends, k: u16, mut s: SenderHalf) -> SenderHalf
 }
 
 // How many ticks of the receiver only count, by the line that it hears.
+#[tactic(auto, unfolding(way_rules::specs::Calm::receiver_calm))]
 fn heard_calm(e: Ends, w: Way) -> u16
     ensures { result ≡ heard_calm e w }
 {
@@ -479,6 +483,7 @@ fn calm(e: Ends, w: Way) -> u16
     least(heard_calm(e, w), sends)
 }
 
+#[tactic(auto, unfolding(way_rules::specs::Calm::sender_skipped, way_rules::specs::Calm::way_skipped))]
 fn skipped(e: Ends, k: u16, mut w: Way) -> Way
     ensures { result ≡ way_skipped e k w }
 {
@@ -579,6 +584,7 @@ fn look_place(f: Format, m: u16) -> u32
 }
 
 // The receiver is where the frame's place puts it.
+#[tactic(auto, unfolding(way_rules::specs::Leap::in_step))]
 fn in_step(w: Way) -> bool
     ensures { (result ≡ in_step w) × (w.sender.frame.character < 256) }
 {

@@ -1,0 +1,7 @@
+-- `way::skip` meets its contract. Ticks that only count, at once.
+use Rattle.std.proofs.Common.{◌∙◌, arith}
+use Rattle.way_rules.proofs.Ways.{skips}
+use Rattle.way.proofs.skip.Goals as goal
+
+pub returns : goal.returns
+returns c = c.skipped.ensures ∙ skips c.args.e c.args.k c.args.w (omega (arith, c.if-k-eq0.false)) c.requires
