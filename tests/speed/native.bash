@@ -18,10 +18,9 @@ needs rt
 mkdir -p "$room"
 from_ir=${SPEED_FROM_IR:-0}
 [ "$(uname -m)" = x86_64 ] || from_ir=1
-kit=$(dirname "$(dirname "$(rt doc)")")
-own=$kit/on/$(uname -m)
-tools=$own/toolchain
-[ -x "$tools/bin/clang" ] || fail "the kit has no toolchain for this machine"
+kit=$(dirname "$(rt doc)")
+tools=$kit/toolchain
+"$tools/bin/clang" --version >/dev/null 2>&1 || fail "the kit has no toolchain for this machine"
 clang=("$tools/bin/clang" --target="$(uname -m)-unknown-linux-gnu")
 
 # built_before FILE HOW: it is there, and no source is newer
@@ -32,11 +31,15 @@ built_before() {
     [ -z "$newer" ] || fail "$1 is older than $newer: $2 builds it"
 }
 
-# A toolchain folder whose clang keeps the module that it is handed, and its words.
+# A toolchain folder whose clang keeps the module that it is handed, and its words. (It has no link, as rt takes none in a repository.)
 keeping_toolchain() {
+    local tool
     mkdir -p "$room/toolchain/bin"
-    ln -sfn "$tools/lib" "$room/toolchain/lib"
-    ln -sf "$tools/bin/ld.lld" "$tools/bin/llvm-ar" "$room/toolchain/bin/"
+    cp -r "$tools/lib" "$room/toolchain/"
+    for tool in ld.lld llvm-ar; do
+        printf '#!/bin/sh\nexec "%s" "$@"\n' "$tools/bin/$tool" >"$room/toolchain/bin/$tool"
+        chmod +x "$room/toolchain/bin/$tool"
+    done
     cat >"$room/toolchain/bin/clang" <<END
 #!/bin/sh
 printf '%s\n' "\$@" >"$PWD/$room/words"
@@ -48,14 +51,18 @@ END
 
 # keep_module CRATE ROOT WORD..: builds a crate by the words of rt, but with that toolchain. Nothing is built unless the crate is proved.
 keep_module() {
-    local words=(--crate-name "$1" "crates/$1/src/$2" --extern "std=$own/rlib/std.rlib") names name
-    read -ra names < <(sed -n "s/^$1: *//p" crates.txt)
+    local words=(--crate-name "$1" "src/$2" --extern "std=$kit/rlibs/std.rlib" -L "dependency=$kit/rlibs") names name built
+    read -ra names < <(sed -nE "s/^$1( staticlib)?: *//p" crates.txt)
     for name in "${names[@]}"; do
-        if [ -d "crates/$name" ]; then words+=(--extern "$name=target/rlib/$name.rlib"); else words+=(--extern "$name=$own/rlib/$name.rlib"); fi
+        built=$PWD/crates/$name/out/rlib/$name.rlib
+        [ -d "crates/$name" ] || built=$kit/rlibs/$name.rlib
+        words+=(--extern "$name=$built")
     done
-    words+=(-L dependency=target/rlib -L "dependency=$own/rlib" --antt-project "$kit/logic/antt-project.json" --logic-built "$own/logic-built")
+    for built in "$PWD"/crates/*/out/rlib; do words+=(-L "dependency=$built"); done
+    words+=(--antt-project "$kit/rattle/logic/antt-project.json" --logic-built "$kit/logic_built" --links "$1=" --backend llvm)
     rm -f "$room/module.bc"
-    "$own/bin/rattle" build "${words[@]}" "${@:3}" --toolchain "$room/toolchain" >"$room/build.log" 2>&1 || fail "$1 was not built; $room/build.log says why"
+    (cd "crates/$1" && "$kit/bin/rattle" build "${words[@]}" "${@:3}" --toolchain "$OLDPWD/$room/toolchain") >"$room/build.log" 2>&1 ||
+        fail "$1 was not built; $room/build.log says why"
     [ -f "$room/module.bc" ] || fail "rattle no longer hands clang a file module.bc; $room/words has what it does"
 }
 
@@ -82,13 +89,13 @@ native_object() {
     compile_module "$1"
 }
 
-# proved_library CRATE: what is to be linked of a library for C, in `proved`, and what that is, in `way`
+# proved_library NAME: what is to be linked of the calls of a crate for C, in `proved`, and what that is, in `way`
 proved_library() {
     local archive=target/staticlib/lib$1.a
-    built_before "$archive" "rt staticlib $1"
+    built_before "$archive" "tools/fresh speed archive $1"
     if [ "$from_ir" = 1 ]; then
         proved=$room/$1.o
-        native_object "$proved" "$archive" "$1" lib.rt --crate-type staticlib -o "$room/kept.a"
+        native_object "$proved" "$archive" "${1}_c" lib.rt --crate-type staticlib -o "$PWD/$room/kept.a"
         way="the LLVM module of $archive, compiled for $(uname -m) by the kit's clang at -O3"
     else
         proved=$archive

@@ -21,8 +21,15 @@ pub struct Program {
     pub wrong: String,
     pub refused: Vec<String>,
     pub falls: Vec<String>,
-    /// the file of each pair, and what it puts there
-    pub pairs: Vec<(String, String)>,
+    pub pairs: Vec<Pair>,
+}
+
+/// A text of a file, and what is put there.
+#[derive(Debug, Clone, PartialEq)]
+pub struct Pair {
+    pub file: String,
+    pub old: String,
+    pub new: String,
 }
 
 impl Program {
@@ -30,7 +37,7 @@ impl Program {
     pub fn is_alike(&self) -> bool {
         self.pairs
             .iter()
-            .any(|(file, _)| file.starts_with("specs/"))
+            .any(|pair| pair.file.starts_with("specs/"))
     }
 }
 
@@ -54,7 +61,7 @@ fn heading(comment: &str) -> Option<(&str, &str)> {
 /// The wrong programs of an edit whose file is STEM.edit, or what is wrong with its lines.
 pub fn programs(stem: &str, text: &str) -> Result<Vec<Program>, String> {
     let mut found: Vec<Program> = Vec::new();
-    let mut file = String::new();
+    let (mut file, mut old) = (String::new(), String::new());
     for line in text.lines() {
         let none = || format!("no '# NAME: what is wrong' stands above '{line}'");
         if let Some(list) = line.strip_prefix("# refused at: ") {
@@ -74,12 +81,15 @@ pub fn programs(stem: &str, text: &str) -> Result<Vec<Program>, String> {
                 ..Program::default()
             });
         } else if let Some(named) = line.strip_prefix("file: ") {
-            file = named.to_string();
+            file = named.trim().to_string();
+        } else if let Some(text) = line.strip_prefix("old: ") {
+            old = text.to_string();
         } else if let Some(new) = line.strip_prefix("new:") {
-            found.last_mut().ok_or_else(none)?.pairs.push((
-                file.clone(),
-                new.strip_prefix(' ').unwrap_or(new).to_string(),
-            ));
+            found.last_mut().ok_or_else(none)?.pairs.push(Pair {
+                file: file.clone(),
+                old: std::mem::take(&mut old),
+                new: new.strip_prefix(' ').unwrap_or(new).to_string(),
+            });
         }
     }
     fit(stem, &found)?;

@@ -13,8 +13,8 @@ pub enum Why {
     Unfit,
 }
 
-/// A declaration of an .antt file below proofs/ or specs/; a need of a function that has no proof file, at its line of src/; or an error
-/// that names no declaration, as of a text that cannot be read.
+/// A declaration of an .antt file below proofs/ or specs/; one whose dependents in a file were not checked, as it was not admitted itself; a
+/// goal of a function that no proof file answers, at its line of src/; or an error that names no declaration, as of a text that cannot be read.
 #[derive(Debug, Clone, PartialEq)]
 pub enum Refusal {
     Declaration {
@@ -22,28 +22,31 @@ pub enum Refusal {
         name: String,
         why: Why,
     },
-    Need {
+    Fallen {
+        file: String,
+        cause: String,
+        names: Vec<String>,
+    },
+    Goal {
         file: String,
         line: usize,
+        /// what is known there allows values at which it is false
+        may_be_false: bool,
     },
     Nameless {
         line: String,
     },
 }
 
-/// What is said of a proof file whose needs, whose paths into what is known at a need, or whose names are not those of the code.
-const UNFIT: [&str; 5] = [
+/// What is said of a proof file whose goals, whose paths into what is known at a goal, or whose names are not those of the code.
+const UNFIT: [&str; 3] = [
     "that can be named from here",
     "has no field `",
-    "expected type `tie.Need-",
-    ".Tie.Need-",
     "not in scope",
 ];
 
 fn why(message: &str) -> Why {
-    if message.contains("was not admitted (") {
-        Why::FallsWithAnother
-    } else if UNFIT.iter().any(|words| message.contains(words)) {
+    if UNFIT.iter().any(|words| message.contains(words)) {
         Why::Unfit
     } else {
         Why::Own
@@ -51,16 +54,32 @@ fn why(message: &str) -> Why {
 }
 
 /// `PATH:LINE:COLUMN` below the edited crate, as its file and line.
-fn place(path: &str, room: &str) -> Option<(String, usize)> {
+fn place(path: &str) -> Option<(String, usize)> {
     let mut parts = path.rsplitn(3, ':');
     let _column = parts.next()?;
     let line = parts.next()?.parse().ok()?;
-    let file = parts.next()?.strip_prefix(room)?.trim_start_matches('/');
-    Some((file.to_string(), line))
+    let file = parts.next()?;
+    Some((file.strip_prefix("./").unwrap_or(file).to_string(), line))
 }
 
-/// The refusals of a log; `room` is the folder of the edited crate, as the log names it.
-pub fn refusals(log: &str, room: &str) -> Vec<Refusal> {
+/// ``N declarations that depend on `CAUSE`, which was rejected, were not checked: NAME, NAME (via NAME) and N more``: the cause and the names.
+fn fallen(message: &str) -> Option<(String, Vec<String>)> {
+    let (count, rest) = message.split_once(" that depend")?;
+    let _number: usize = count.split_once(" declaration")?.0.parse().ok()?;
+    let (cause, rest) = rest.split_once('`')?.1.split_once('`')?;
+    let (_, list) = rest.split_once(" not checked: ")?;
+    let list = match list.rsplit_once(" and ") {
+        Some((list, rest)) if rest.ends_with(" more") => list,
+        _ => list,
+    };
+    let names = list
+        .split(", ")
+        .map(|name| name.split(" (via ").next().unwrap_or_default().to_string());
+    Some((cause.into(), names.collect()))
+}
+
+/// The refusals of a log of `rt check`.
+pub fn refusals(log: &str) -> Vec<Refusal> {
     let mut found = Vec::new();
     let lines: Vec<&str> = log.lines().collect();
     for (at, line) in lines.iter().enumerate() {
@@ -73,27 +92,36 @@ pub fn refusals(log: &str, room: &str) -> Vec<Refusal> {
                 .chain(more.copied())
                 .collect::<Vec<_>>()
                 .join("\n");
-            match (
-                place(path, room),
-                message
-                    .strip_prefix('`')
-                    .and_then(|text| text.split_once("`:")),
-            ) {
-                (Some((file, _)), Some((name, message))) => found.push(Refusal::Declaration {
+            let named = message
+                .strip_prefix('`')
+                .and_then(|text| text.split_once("`:"));
+            found.push(match (place(path), named, fallen(rest)) {
+                (Some((file, _)), _, Some((cause, names))) => {
+                    Refusal::Fallen { file, cause, names }
+                }
+                (Some((file, _)), Some((name, message)), _) => Refusal::Declaration {
                     file,
                     name: name.into(),
                     why: why(message),
-                }),
-                _ => found.push(Refusal::Nameless {
+                },
+                _ => Refusal::Nameless {
                     line: line.to_string(),
-                }),
-            }
-        } else if let Some((path, _)) = line
+                },
+            });
+        } else if line.contains(": error[") {
+            found.push(Refusal::Nameless {
+                line: line.to_string(),
+            });
+        } else if let Some((path, rest)) = line
             .strip_prefix("note: ")
             .and_then(|note| note.split_once(": it is not proved that "))
         {
-            if let Some((file, line)) = place(path, room) {
-                found.push(Refusal::Need { file, line });
+            if let Some((file, line)) = place(path) {
+                found.push(Refusal::Goal {
+                    file,
+                    line,
+                    may_be_false: rest.contains("allow values at which this goal is false"),
+                });
             }
         }
     }
@@ -104,7 +132,7 @@ pub fn refusals(log: &str, room: &str) -> Vec<Refusal> {
 fn function_head(line: &str) -> Option<&str> {
     let head = line.strip_prefix("pub ").unwrap_or(line);
     let head = head.strip_prefix("extern \"C\" ").unwrap_or(head);
-    head.strip_prefix("fn ")?.split('(').next()
+    head.strip_prefix("fn ")?.split(['(', '<']).next()
 }
 
 pub fn has_functions(source: &str) -> bool {
@@ -135,11 +163,11 @@ pub fn functions_with<'a>(source: &'a str, text: &str) -> Vec<&'a str> {
     names.filter(has).collect()
 }
 
-/// Where a function stands: its file of src/, and its proof file where it has one, below the crate's folder.
+/// Where a function stands: its file of src/, and the folder of its proof files, below the crate's folder.
 pub struct Function {
     pub source: String,
     pub lines: (usize, usize),
-    pub proof: Option<String>,
+    pub proofs: String,
 }
 
 /// The function of the crate in `room` with this name; `parity::odd` is `odd` of the module `parity`.
@@ -157,57 +185,86 @@ pub fn function(room: &Path, name: &str) -> Option<Function> {
     })?;
     let folder: String = path.iter().map(|part| format!("{part}/")).collect();
     // a function that calls itself has `+` before its name
-    let proof = ["", "+"]
-        .map(|mark| format!("proofs/{folder}{mark}{last}/Proof.antt"))
+    let proofs = ["+", ""]
+        .map(|mark| format!("proofs/{folder}{mark}{last}"))
         .into_iter()
-        .find(|file| room.join(file).is_file());
+        .find(|folder| room.join(folder).is_dir())
+        .unwrap_or_else(|| format!("proofs/{folder}{last}"));
     Some(Function {
         source,
         lines,
-        proof,
+        proofs,
     })
 }
 
-/// Whether this function was refused by an error of its own.
+/// Whether this function was refused by an error of its own: in a proof file of its own, or at a goal that no file answers. Where an edit
+/// changed the goals that its files are for, such a goal says something only if it may be false.
 pub fn function_refused(function: &Function, refusals: &[Refusal]) -> bool {
-    refusals
+    let in_files: Vec<Why> = refusals
         .iter()
-        .any(|refusal| match (refusal, &function.proof) {
-            (Refusal::Declaration { file, why, .. }, Some(proof)) => {
-                file == proof && *why == Why::Own
+        .filter_map(|refusal| match refusal {
+            Refusal::Declaration { file, why, .. }
+                if file.rsplit_once('/').map(|(folder, _)| folder) == Some(&function.proofs) =>
+            {
+                Some(*why)
             }
-            (Refusal::Need { file, line }, None) => {
-                *file == function.source && (function.lines.0..=function.lines.1).contains(line)
+            _ => None,
+        })
+        .collect();
+    let fits = !in_files.contains(&Why::Unfit);
+    in_files.contains(&Why::Own)
+        || refusals.iter().any(|refusal| match refusal {
+            Refusal::Goal {
+                file,
+                line,
+                may_be_false,
+            } => {
+                *file == function.source
+                    && (function.lines.0..=function.lines.1).contains(line)
+                    && (fits || *may_be_false)
             }
             _ => false,
         })
 }
 
-/// How often a name is declared in the files of proofs/ that are no function's own: a name that an edit gives must be one declaration's.
-pub fn declared(room: &Path, name: &str) -> usize {
+/// The files of proofs/ that are no function's own.
+fn law_files(room: &Path) -> Vec<(String, String)> {
     let files = std::fs::read_dir(room.join("proofs"))
         .into_iter()
         .flatten()
         .flatten()
         .map(|entry| entry.path());
-    let texts = files
+    files
         .filter(|path| path.extension().is_some_and(|end| end == "antt"))
-        .filter_map(|path| std::fs::read_to_string(path).ok());
-    let declares = |line: &&str| {
-        let words = line.trim_start();
-        words
-            .strip_prefix("pub ")
-            .unwrap_or(words)
-            .strip_prefix(name)
-            .is_some_and(|rest| rest.starts_with(" :"))
-    };
-    texts
-        .map(|text| text.lines().filter(declares).count())
-        .sum()
+        .filter_map(|path| {
+            let stem = path.file_stem()?.to_string_lossy().into_owned();
+            Some((stem, std::fs::read_to_string(path).ok()?))
+        })
+        .collect()
+}
+
+fn declares(line: &str, name: &str) -> bool {
+    let words = line.trim_start();
+    words
+        .strip_prefix("pub ")
+        .unwrap_or(words)
+        .strip_prefix(name)
+        .is_some_and(|rest| rest.starts_with(" :"))
+}
+
+/// The files of proofs/ that declare a name, once for each declaration: a name that an edit gives must be one declaration's.
+pub fn declared(room: &Path, name: &str) -> Vec<String> {
+    let mut found = Vec::new();
+    for (stem, text) in law_files(room) {
+        let times = text.lines().filter(|line| declares(line, name)).count();
+        found.extend(std::iter::repeat(stem).take(times));
+    }
+    found
 }
 
 /// Why a declaration of a file of proofs/ that is no function's own was refused: by an error of its own, if it has one.
 pub fn declaration_refused(name: &str, refusals: &[Refusal]) -> Option<Why> {
+    let is_law = |file: &str| file.matches('/').count() == 1;
     let whys: Vec<Why> = refusals
         .iter()
         .filter_map(|refusal| match refusal {
@@ -215,12 +272,17 @@ pub fn declaration_refused(name: &str, refusals: &[Refusal]) -> Option<Why> {
                 file,
                 name: declared,
                 why,
-            } if declared == name && !file.ends_with("/Proof.antt") => Some(*why),
+            } if declared == name && is_law(file) => Some(*why),
             _ => None,
         })
         .collect();
+    let falls = refusals.iter().any(|refusal| match refusal {
+        Refusal::Fallen { cause, names, .. } => cause == name || names.iter().any(|it| it == name),
+        _ => false,
+    });
     whys.iter()
         .copied()
         .find(|why| *why == Why::Own)
         .or(whys.first().copied())
+        .or(falls.then_some(Why::FallsWithAnother))
 }

@@ -1,6 +1,7 @@
-//! The edits of a project, the logs that `rt ci` left of them, and the table of `docs/PROMISES.md`.
+//! The edits of a project, what the logs of their checks show, and the table of `docs/PROMISES.md`.
 
-use crate::edit::{programs, Program};
+use crate::check::PROBES;
+use crate::edit::{programs, Pair, Program};
 use crate::log::{
     declaration_refused, declared, function, function_refused, functions_with, has_functions,
     refusals, Refusal, Why,
@@ -76,27 +77,30 @@ pub fn edits(root: &Path) -> Result<Vec<Edit>, Vec<String>> {
     }
 }
 
-/// What the log of an edit does not show of what its lines say; `room` holds the edited crate and its log.
-pub fn faults(edit: &Edit, room: &Path) -> Vec<String> {
-    let Ok(log) = fs::read_to_string(room.join(".log")) else {
-        return vec![format!(
-            "{}/{}: there is no log of it",
-            edit.crate_name, edit.label
-        )];
-    };
-    let said = refusals(&log, &room.to_string_lossy());
+/// What the log of an edit does not show of what its lines say; `room` is the edited crate.
+pub fn faults(edit: &Edit, room: &Path, log: &str) -> Vec<String> {
+    let all = refusals(log);
+    let full = format!("{}/{}", edit.crate_name, edit.label);
+    match log.lines().rev().find(|line| line.starts_with("logic=")) {
+        Some("logic=not-proved") => {}
+        Some(_) => return vec![format!("{full}: it is proved")],
+        None => {
+            return vec![format!(
+                "{full}: its check came to no end; its log says why"
+            )]
+        }
+    }
     let mut faults = Vec::new();
-    for refusal in &said {
+    for refusal in &all {
         match refusal {
             Refusal::Declaration { file, name, .. } if file.starts_with("specs/") => {
                 faults.push(format!(
-                    "{}/{}: the definition {name} itself is refused, in {file}",
-                    edit.crate_name, edit.label
+                    "{full}: the definition {name} itself is refused, in {file}"
                 ));
             }
-            Refusal::Nameless { line } => faults.push(format!(
-                "{}/{}: an error that names no declaration: {line}",
-                edit.crate_name, edit.label
+            // a probe may name what is private
+            Refusal::Nameless { line } if !line.contains(PROBES) => faults.push(format!(
+                "{full}: an error that names no declaration: {line}"
             )),
             _ => {}
         }
@@ -112,7 +116,7 @@ pub fn faults(edit: &Edit, room: &Path) -> Vec<String> {
             .filter(|name| function(room, name).is_none())
             .chain(&program.falls)
         {
-            let times = declared(room, name);
+            let times = declared(room, name).len();
             if times != 1 {
                 faults.push(format!(
                     "{full}: {name} is declared {times} times in proofs/"
@@ -121,8 +125,8 @@ pub fn faults(edit: &Edit, room: &Path) -> Vec<String> {
         }
         for name in &program.refused {
             let own = match function(room, name) {
-                Some(function) => function_refused(&function, &said),
-                None => declaration_refused(name, &said) == Some(Why::Own),
+                Some(function) => function_refused(&function, &all),
+                None => declaration_refused(name, &all) == Some(Why::Own),
             };
             if !own {
                 faults.push(format!(
@@ -131,7 +135,7 @@ pub fn faults(edit: &Edit, room: &Path) -> Vec<String> {
             }
         }
         for name in &program.falls {
-            if declaration_refused(name, &said) != Some(Why::FallsWithAnother) {
+            if declaration_refused(name, &all) != Some(Why::FallsWithAnother) {
                 faults.push(format!(
                     "{full}: {name} does not fall with it, or has an error of its own"
                 ));
@@ -146,8 +150,8 @@ fn elsewhere(program: &Program, room: &Path) -> Option<String> {
     let code = program
         .pairs
         .iter()
-        .filter(|(file, _)| file.starts_with("src/") && !program.is_alike());
-    for (file, new) in code {
+        .filter(|pair| pair.file.starts_with("src/") && !program.is_alike());
+    for Pair { file, new, .. } in code {
         let module = file.trim_start_matches("src/").trim_end_matches(".rt");
         let path = if ["lib", "main"].contains(&module) {
             String::new()

@@ -1,27 +1,23 @@
 //! The test of the refusals tells a refusal at the fact from one beside it.
+use refusals::check::PROBES;
 use refusals::edit::programs;
 use refusals::log::{declaration_refused, function, function_refused, refusals, Why};
 use refusals::project::{faults, table, Edit};
 use std::fs;
 use std::path::PathBuf;
 
-const SOURCE: &str = "// a crate\nfn plain(x: u8) -> u8\n    ensures { λ r. ⌜ r ≡ x ⌝ }\n{\n    x + 1\n}\n\npub fn proved(x: u8) -> u8\n    ensures { λ r. ⌜ r ≡ x ⌝ }\n{\n    plain(x)\n}\n";
+const SOURCE: &str = "// a crate\nfn plain(x: u8) -> u8\n    ensures { result ≡ x }\n{\n    x + 1\n}\n\npub fn proved(x: u8) -> u8\n    ensures { result ≡ x }\n{\n    plain(x)\n}\n";
 
-/// An edited crate with this log, as `rt ci` leaves it; ROOM in the log stands for its folder.
-fn room(name: &str, log: &str) -> PathBuf {
+/// An edited crate.
+fn room(name: &str) -> PathBuf {
     let room = std::env::temp_dir().join(format!("refusals-{}-{name}", std::process::id()));
     fs::create_dir_all(room.join("src")).unwrap();
     fs::create_dir_all(room.join("proofs/proved")).unwrap();
     fs::write(room.join("src/lib.rt"), SOURCE).unwrap();
-    fs::write(room.join("proofs/proved/Proof.antt"), "").unwrap();
+    fs::write(room.join("proofs/proved/Answers.antt"), "").unwrap();
     fs::write(
         room.join("proofs/Laws.antt"),
         "law : A\nlaw = a\n\npub promise : A\npromise = law\n\ntwice : A\n  where\n    twice : A\n",
-    )
-    .unwrap();
-    fs::write(
-        room.join(".log"),
-        log.replace("ROOM", &room.to_string_lossy()),
     )
     .unwrap();
     room
@@ -36,37 +32,46 @@ fn edit(text: &str) -> Edit {
     }
 }
 
+/// What a log with these lines does not show.
 fn said(name: &str, lines: &str, log: &str) -> Vec<String> {
-    let room = room(name, log);
+    let room = room(name);
     let found = faults(
         &edit(&format!(
             "# wrong: so\n{lines}\nfile: src/lib.rt\nold: a\nnew: // a crate\n"
         )),
         &room,
+        &format!("{log}logic=not-proved\n"),
     );
     fs::remove_dir_all(room).unwrap();
     found
 }
 
-const OWN: &str = "ROOM/proofs/Laws.antt:3:4: error: `law`: `omega`: the goal does not follow\n  from what it read\n";
-const FALLS: &str = "ROOM/proofs/Laws.antt:9:4: error: `promise`: `law` was not admitted (it has holes or undetermined implicits, or was rejected), so this cannot be checked\n";
+const OWN: &str = "./proofs/Laws.antt:3:4: error: `law`: `omega`: the goal does not follow\n  from what it read\n";
+const FALLS: &str = "./proofs/Laws.antt:9:4: error: 5 declarations that depend on `law`, which was rejected, were not checked: one, promise (via one), two and 2 more\n";
+/// `promise` is not among the three that are named, and its probe is.
+const PROBED: &str = "./proofs/Laws.antt:9:4: error: 5 declarations that depend on `law`, which was rejected, were not checked: one, two, three and 2 more\n./proofs/FallsWithIt.antt:7:1: error: 1 declaration that depends on `promise`, which was not admitted, was not checked: falls_0\n";
 
 #[test]
 fn a_declaration_is_refused_by_an_error_of_its_own() {
-    assert!(said(
-        "own",
-        "# refused at: law\n# falls with it: promise",
-        &format!("{OWN}{FALLS}")
-    )
-    .is_empty());
+    for falls in [FALLS, PROBED] {
+        assert!(said(
+            "own",
+            "# refused at: law\n# falls with it: promise",
+            &format!("{OWN}{falls}")
+        )
+        .is_empty());
+    }
+    assert!(PROBED.contains(PROBES));
 }
 
 #[test]
 fn a_declaration_that_only_falls_is_not_refused_there() {
-    assert_eq!(
-        said("falls", "# refused at: promise", &format!("{OWN}{FALLS}")).len(),
-        1
-    );
+    for falls in [FALLS, PROBED] {
+        assert_eq!(
+            said("falls", "# refused at: promise", &format!("{OWN}{falls}")).len(),
+            1
+        );
+    }
     assert_eq!(
         said(
             "other",
@@ -100,36 +105,46 @@ fn a_name_is_one_declarations() {
     );
 }
 
+const NOTE: &str =
+    "it is not proved that what the function ensures holds when it returns (`returns`)";
+const MAY_BE_FALSE: &str = "; the facts known there allow values at which this goal is false";
+const UNFIT: &str = "./proofs/proved/Answers.antt:3:4: error: `returns-then-b`: `goal.returns-then-b`: module `Rattle.line.proofs.proved.Goals` has no `returns-then-b` that can be named from here\n";
+
 #[test]
-fn a_function_with_a_proof_file_is_refused_there() {
-    let own = "ROOM/proofs/proved/Proof.antt:3:4: error: `returns`: the two types differ\n";
-    let falls = "ROOM/proofs/proved/Proof.antt:9:4: error: `proved-spec`: `returns` was not admitted (it has holes or undetermined implicits, or was rejected), so this cannot be checked\n";
-    let note = "note: ROOM/src/lib.rt:9:1: it is not proved that what the function ensures holds when it returns (`returns`)\n";
-    assert!(said("file", "# refused at: proved", &format!("{own}{falls}")).is_empty());
-    assert_eq!(said("spec", "# refused at: proved", falls).len(), 1);
-    assert_eq!(said("note", "# refused at: proved", note).len(), 1);
+fn a_function_is_refused_in_its_proof_files() {
+    let own = "./proofs/proved/Answers.antt:3:4: error: `returns`: the two types differ\n";
+    let falls = "./proofs/proved/Answers.antt:9:4: error: 1 declaration that depends on `met`, which was not admitted, was not checked: returns\n";
+    assert!(said("file", "# refused at: proved", own).is_empty());
+    assert!(said("both", "# refused at: proved", &format!("{UNFIT}{own}")).is_empty());
+    assert_eq!(said("falling", "# refused at: proved", falls).len(), 1);
+    assert_eq!(said("beside", "# refused at: plain", own).len(), 1);
 }
 
 #[test]
-fn a_function_without_one_is_refused_at_its_lines() {
-    let at = |line: usize| {
-        format!("note: ROOM/src/lib.rt:{line}:1: it is not proved that what the function ensures holds when it returns (`returns`)\n")
-    };
+fn a_function_is_refused_at_its_lines() {
+    let at = |line: usize| format!("note: src/lib.rt:{line}:1: {NOTE}\n");
     assert!(said("lines", "# refused at: plain", &at(2)).is_empty());
     assert!(said("inside", "# refused at: plain", &at(5)).is_empty());
     assert_eq!(said("next", "# refused at: plain", &at(8)).len(), 1);
+    assert!(said("proved", "# refused at: proved", &at(8)).is_empty());
+    let calls = "fn line::plain: no proof: it calls `line::proved`, which is not proved\n";
+    assert_eq!(said("calls", "# refused at: plain", calls).len(), 1);
 }
 
 #[test]
 fn a_proof_file_that_does_not_fit_the_code_shows_nothing() {
     for message in [
-        "`tie` has no `Need-returns-2` that can be named from here",
-        "expected type `tie.Need-a`, but this has type `tie.Need-b`",
-        "record `Rattle·line·proofs.proofs.proved.Lts.Start` has no field `before`",
+        "module `Rattle.line.proofs.proved.Goals` has no `returns-then-b` that can be named from here",
+        "record `Rattle.line.proofs.proved.Lts.Start` has no field `if-b`",
+        "`rule` is not in scope",
     ] {
-        let unfit = format!("ROOM/proofs/proved/Proof.antt:3:4: error: `proved-spec`: {message}\n");
+        let unfit = format!("./proofs/proved/Answers.antt:3:4: error: `returns`: {message}\n");
         assert_eq!(said("unfit", "# refused at: proved", &unfit).len(), 1);
     }
+    // a goal is then open in any case, and says something where it may be false
+    let note = |more: &str| format!("{UNFIT}note: src/lib.rt:8:1: {NOTE}{more}\n");
+    assert_eq!(said("open", "# refused at: proved", &note("")).len(), 1);
+    assert!(said("false", "# refused at: proved", &note(MAY_BE_FALSE)).is_empty());
 }
 
 #[test]
@@ -138,25 +153,25 @@ fn a_definition_that_is_refused_itself_is_told() {
         said(
             "specs",
             "# refused at: law",
-            &format!("{OWN}ROOM/specs/Rule.antt:3:4: error: `rule`: not in scope\n")
+            &format!("{OWN}./specs/Rule.antt:3:4: error: `rule`: not in scope\n")
         )
         .len(),
         1
     );
-    assert_eq!(said("no-log", "# refused at: law", "").len(), 1);
+    assert_eq!(said("nothing-said", "# refused at: law", "").len(), 1);
 }
 
 #[test]
 fn an_error_that_names_no_declaration_is_told() {
-    assert_eq!(
-        said(
-            "nameless",
-            "# refused at: law",
-            &format!("{OWN}ROOM/proofs/Laws.antt:3:4: error: this cannot be read\n")
-        )
-        .len(),
-        1
-    );
+    for line in [
+        "./proofs/Laws.antt:3:4: error: this cannot be read\n",
+        "src/lib.rt:3:4: error[mismatched-types]: expected `u8`, found `bool`\n",
+    ] {
+        assert_eq!(
+            said("nameless", "# refused at: law", &format!("{OWN}{line}")).len(),
+            1
+        );
+    }
     assert_eq!(
         said(
             "scope",
@@ -172,10 +187,20 @@ fn an_error_that_names_no_declaration_is_told() {
 }
 
 #[test]
+fn a_check_ends_with_a_refusal() {
+    let wrong = edit("# wrong: so\n# refused at: law\nfile: specs/Rule.antt\nold: a\nnew: b\n");
+    let room = room("ends");
+    for log in ["", "logic=proved functions=2\n"] {
+        assert_eq!(faults(&wrong, &room, &format!("{OWN}{log}")).len(), 1);
+    }
+    fs::remove_dir_all(room).unwrap();
+}
+
+#[test]
 fn a_wrong_body_is_refused_at_its_own_function() {
-    let note = "note: ROOM/src/lib.rt:2:1: it is not proved that what the function ensures holds when it returns (`returns`)\n";
+    let log = format!("note: src/lib.rt:2:1: {NOTE}\nlogic=not-proved\n");
     for (new, faulty) in [("x + 1", 0), ("plain(x)", 1), ("// a crate", 0)] {
-        let room = room("body", note);
+        let room = room("body");
         let found = faults(
             &edit(
                 &format!(
@@ -184,6 +209,7 @@ fn a_wrong_body_is_refused_at_its_own_function() {
                 .replace(":     //", ": //"),
             ),
             &room,
+            &log,
         );
         assert_eq!(found.len(), faulty, "{new}: {found:?}");
         fs::remove_dir_all(room).unwrap();
@@ -192,17 +218,18 @@ fn a_wrong_body_is_refused_at_its_own_function() {
 
 #[test]
 fn the_log_is_read_by_place() {
-    let room = room("place", &format!("{OWN}{FALLS}"));
-    let log = fs::read_to_string(room.join(".log")).unwrap();
-    let found = refusals(&log, &room.to_string_lossy());
+    let room = room("place");
+    let found = refusals(&format!("{OWN}{FALLS}"));
     assert_eq!(declaration_refused("law", &found), Some(Why::Own));
-    assert_eq!(
-        declaration_refused("promise", &found),
-        Some(Why::FallsWithAnother)
-    );
+    for name in ["one", "promise", "two"] {
+        assert_eq!(
+            declaration_refused(name, &found),
+            Some(Why::FallsWithAnother)
+        );
+    }
     assert_eq!(declaration_refused("other", &found), None);
     let plain = function(&room, "plain").unwrap();
-    assert_eq!((plain.lines, plain.proof.clone()), ((2, 6), None));
+    assert_eq!(plain.lines, (2, 6));
     assert!(!function_refused(&plain, &found));
     assert!(function(&room, "parity::odd").is_none());
     fs::remove_dir_all(room).unwrap();
