@@ -87,6 +87,7 @@ fn plan_write(b: Board, port: u8, value: u8) -> Board
     after
 }
 
+#[tactic(auto, unfolding(crate::specs::Plans::plan_out))]
 fn plan_out(b: Board, channels: usize, port: u8, value: u8) -> Plan
     ensures { result ≡ Plans.plan_out b channels port value }
 {
@@ -138,6 +139,7 @@ fn reset_board(b: Board) -> Board
     }
 }
 
+#[tactic(auto, unfolding(crate::specs::Plans::plan_reset))]
 fn plan_reset(b: Board, channels: usize) -> Plan
     ensures { result ≡ Plans.plan_reset b channels }
 {
@@ -166,6 +168,7 @@ fn nibble(a: u16, b: u16, c: u16, d: u16) -> u16
 }
 
 // The lowest bits of eight numbers, the first one's lowest.
+#[tactic(auto, unfolding(crate::specs::Plans::low_bits))]
 fn low_bits(a: u16, b: u16, c: u16, d: u16, e: u16, f: u16, g: u16, h: u16) -> u16
     ensures { (result ≡ Plans.low_bits a b c d e f g h) × (result ≤ 255) }
 {
@@ -173,6 +176,7 @@ fn low_bits(a: u16, b: u16, c: u16, d: u16, e: u16, f: u16, g: u16, h: u16) -> u
 }
 
 // Port 4 or 5 from the status of each channel.
+#[tactic(auto, unfolding(crate::specs::Plans::interrupt_status))]
 fn interrupt_status(
     b: Board,
     s0: u16,
@@ -203,6 +207,7 @@ fn interrupt_status(
 }
 
 // Both bytes of the interrupt lines.
+#[tactic(auto, unfolding(crate::specs::Plans::interrupt_lines))]
 fn interrupt_lines(
     b: Board,
     s0: u16,
@@ -247,9 +252,11 @@ fn all_reset(
 // == the calls on a lent board and a lent room ==
 
 // Reads a port: 0 to 3 are the selected channel's registers, 4 and 5 the interrupt status.
-#[unsafe(no_mangle)]
-pub extern "C" fn interfacer3_in(board: &mut Board, room: &mut [Device], port: u8) -> u16
-    ensures { (result ≡ answer board.old room.old (In port)) × ((board.new ≡ board_after board.old room.old (In port)) × (room.new ≡ room_after board.old room.old (In port))) }
+#[tactic(auto, unfolding(board_rules::specs::Runs::answer, board_rules::specs::Runs::said, board_rules::specs::Runs::board_after, board_rules::specs::Runs::room_after))]
+pub fn interfacer3_in(board: &mut Board, room: &mut [Device], port: u8) -> u16
+    ensures answer { result ≡ answer board.old room.old (In port) }
+    ensures board { board.new ≡ board_after board.old room.old (In port) }
+    ensures room { room.new ≡ room_after board.old room.old (In port) }
 {
     let plan = plan_in(*board, room.len(), port);
     *board = plan.board;
@@ -274,14 +281,11 @@ pub extern "C" fn interfacer3_in(board: &mut Board, room: &mut [Device], port: u
 }
 
 // Writes a port: 0 to 3 are the selected channel's registers, 4 and 5 the masks, 7 the select.
-#[unsafe(no_mangle)]
-pub extern "C" fn interfacer3_out(
-    board: &mut Board,
-    room: &mut [Device],
-    port: u8,
-    value: u8,
-) -> u16
-    ensures { (result ≡ answer board.old room.old (Out port value)) × ((board.new ≡ board_after board.old room.old (Out port value)) × (room.new ≡ room_after board.old room.old (Out port value))) }
+#[tactic(auto, using(crate::proofs::Promises::write_small), unfolding(board_rules::specs::Runs::answer, board_rules::specs::Runs::said, board_rules::specs::Runs::board_after, board_rules::specs::Runs::room_after, crate::specs::Plans::plan_out))]
+pub fn interfacer3_out(board: &mut Board, room: &mut [Device], port: u8, value: u8) -> u16
+    ensures answer { result ≡ answer board.old room.old (Out port value) }
+    ensures board { board.new ≡ board_after board.old room.old (Out port value) }
+    ensures room { room.new ≡ room_after board.old room.old (Out port value) }
 {
     let plan = plan_out(*board, room.len(), port, value);
     *board = plan.board;
@@ -292,9 +296,11 @@ pub extern "C" fn interfacer3_out(
 }
 
 // Resets every channel and the board, but for its number.
-#[unsafe(no_mangle)]
-pub extern "C" fn interfacer3_reset(board: &mut Board, room: &mut [Device]) -> u16
-    ensures { (result ≡ answer board.old room.old Reset) × ((board.new ≡ board_after board.old room.old Reset) × (room.new ≡ room_after board.old room.old Reset)) }
+#[tactic(auto, using(crate::proofs::Promises::reset_whole), unfolding(board_rules::specs::Runs::answer, board_rules::specs::Runs::said, board_rules::specs::Runs::board_after, board_rules::specs::Runs::room_after, crate::specs::Plans::plan_reset))]
+pub fn interfacer3_reset(board: &mut Board, room: &mut [Device]) -> u16
+    ensures answer { result ≡ answer board.old room.old Reset }
+    ensures board { board.new ≡ board_after board.old room.old Reset }
+    ensures room { room.new ≡ room_after board.old room.old Reset }
 {
     let plan = plan_reset(*board, room.len());
     *board = plan.board;
@@ -315,8 +321,8 @@ pub extern "C" fn interfacer3_reset(board: &mut Board, room: &mut [Device]) -> u
 }
 
 // Sets the three modem inputs of a channel.
-#[unsafe(no_mangle)]
-pub extern "C" fn interfacer3_pins(
+#[tactic(auto, using(crate::proofs::Promises::pins_small), unfolding(board_rules::specs::Runs::answer, board_rules::specs::Runs::said, board_rules::specs::Runs::board_after, board_rules::specs::Runs::room_after))]
+pub fn interfacer3_pins(
     board: &mut Board,
     room: &mut [Device],
     channel: u8,
@@ -324,7 +330,9 @@ pub extern "C" fn interfacer3_pins(
     dcd: u8,
     cts: u8,
 ) -> u16
-    ensures { (result ≡ answer board.old room.old (Pins channel dsr dcd cts)) × ((board.new ≡ board_after board.old room.old (Pins channel dsr dcd cts)) × (room.new ≡ room_after board.old room.old (Pins channel dsr dcd cts))) }
+    ensures answer { result ≡ answer board.old room.old (Pins channel dsr dcd cts) }
+    ensures board { board.new ≡ board_after board.old room.old (Pins channel dsr dcd cts) }
+    ensures room { room.new ≡ room_after board.old room.old (Pins channel dsr dcd cts) }
 {
     let plan = plan_pins(*board, room.len(), channel, dsr, dcd, cts);
     *board = plan.board;
@@ -335,9 +343,11 @@ pub extern "C" fn interfacer3_pins(
 }
 
 // A transmit tick of a channel; answers the level that it sends.
-#[unsafe(no_mangle)]
-pub extern "C" fn interfacer3_transmit(board: &mut Board, room: &mut [Device], channel: u8) -> u16
-    ensures { (result ≡ answer board.old room.old (Transmit channel)) × ((board.new ≡ board_after board.old room.old (Transmit channel)) × (room.new ≡ room_after board.old room.old (Transmit channel))) }
+#[tactic(auto, unfolding(board_rules::specs::Runs::answer, board_rules::specs::Runs::said, board_rules::specs::Runs::board_after, board_rules::specs::Runs::room_after))]
+pub fn interfacer3_transmit(board: &mut Board, room: &mut [Device], channel: u8) -> u16
+    ensures answer { result ≡ answer board.old room.old (Transmit channel) }
+    ensures board { board.new ≡ board_after board.old room.old (Transmit channel) }
+    ensures room { room.new ≡ room_after board.old room.old (Transmit channel) }
 {
     let plan = plan_named(*board, room.len(), channel);
     *board = plan.board;
@@ -348,14 +358,11 @@ pub extern "C" fn interfacer3_transmit(board: &mut Board, room: &mut [Device], c
 }
 
 // A receive tick of a channel with its line at a level.
-#[unsafe(no_mangle)]
-pub extern "C" fn interfacer3_receive(
-    board: &mut Board,
-    room: &mut [Device],
-    channel: u8,
-    level: u8,
-) -> u16
-    ensures { (result ≡ answer board.old room.old (Receive channel level)) × ((board.new ≡ board_after board.old room.old (Receive channel level)) × (room.new ≡ room_after board.old room.old (Receive channel level))) }
+#[tactic(auto, using(crate::proofs::Promises::receive_small), unfolding(board_rules::specs::Runs::answer, board_rules::specs::Runs::said, board_rules::specs::Runs::board_after, board_rules::specs::Runs::room_after))]
+pub fn interfacer3_receive(board: &mut Board, room: &mut [Device], channel: u8, level: u8) -> u16
+    ensures answer { result ≡ answer board.old room.old (Receive channel level) }
+    ensures board { board.new ≡ board_after board.old room.old (Receive channel level) }
+    ensures room { room.new ≡ room_after board.old room.old (Receive channel level) }
 {
     let plan = plan_receive(*board, room.len(), channel, level);
     *board = plan.board;
@@ -366,9 +373,11 @@ pub extern "C" fn interfacer3_receive(
 }
 
 // The levels of the outputs of a channel, as the bits of one number.
-#[unsafe(no_mangle)]
-pub extern "C" fn interfacer3_outputs(board: &mut Board, room: &mut [Device], channel: u8) -> u16
-    ensures { (result ≡ answer board.old room.old (Outputs channel)) × ((board.new ≡ board_after board.old room.old (Outputs channel)) × (room.new ≡ room_after board.old room.old (Outputs channel))) }
+#[tactic(auto, unfolding(board_rules::specs::Runs::answer, board_rules::specs::Runs::said, board_rules::specs::Runs::board_after, board_rules::specs::Runs::room_after))]
+pub fn interfacer3_outputs(board: &mut Board, room: &mut [Device], channel: u8) -> u16
+    ensures answer { result ≡ answer board.old room.old (Outputs channel) }
+    ensures board { board.new ≡ board_after board.old room.old (Outputs channel) }
+    ensures room { room.new ≡ room_after board.old room.old (Outputs channel) }
 {
     let plan = plan_named(*board, room.len(), channel);
     *board = plan.board;
@@ -379,9 +388,11 @@ pub extern "C" fn interfacer3_outputs(board: &mut Board, room: &mut [Device], ch
 }
 
 // The interrupt lines, a 1 where one is asserted: 65536 times the refusal, 256 times the receive byte and the transmit byte.
-#[unsafe(no_mangle)]
-pub extern "C" fn interfacer3_interrupts(board: &mut Board, room: &mut [Device]) -> u32
-    ensures { (result ≡ answer board.old room.old Interrupts) × ((board.new ≡ board_after board.old room.old Interrupts) × (room.new ≡ room_after board.old room.old Interrupts)) }
+#[tactic(auto, unfolding(board_rules::specs::Runs::answer, board_rules::specs::Runs::said, board_rules::specs::Runs::board_after, board_rules::specs::Runs::room_after))]
+pub fn interfacer3_interrupts(board: &mut Board, room: &mut [Device]) -> u32
+    ensures answer { result ≡ answer board.old room.old Interrupts }
+    ensures board { board.new ≡ board_after board.old room.old Interrupts }
+    ensures room { room.new ≡ room_after board.old room.old Interrupts }
 {
     let plan = plan_interrupts(*board, room.len());
     *board = plan.board;

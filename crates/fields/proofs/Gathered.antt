@@ -62,16 +62,16 @@ extended_is l b = rw (longer_is l b, only_is l b, counted_is, length-append)
 
 -- == the fields of a line ==
 
-push-is :
+push_is :
     (before : List Field) (x : Field) (b : ℕ)
     → push (held before x) b ≡ cond (eqb b 9) (held (before ++ x ∷ []) (field_of [])) (held before (extended x b))
 unfolding push parted placed field_of
-push-is [] x b = refl
-push-is (p ∷ []) x b = refl
-push-is (p ∷ q ∷ []) x b = refl
-push-is (p ∷ q ∷ r ∷ []) x b = refl
-push-is (p ∷ q ∷ r ∷ s ∷ []) x b = refl
-push-is (p ∷ q ∷ r ∷ s ∷ t ∷ ts) x b = refl
+push_is [] x b = refl
+push_is (p ∷ []) x b = refl
+push_is (p ∷ q ∷ []) x b = refl
+push_is (p ∷ q ∷ r ∷ []) x b = refl
+push_is (p ∷ q ∷ r ∷ s ∷ []) x b = refl
+push_is (p ∷ q ∷ r ∷ s ∷ t ∷ ts) x b = refl
 
 -- g put before the first part
 abbrev pub onto : List ℕ → List (List ℕ) → List (List ℕ)
@@ -92,11 +92,11 @@ onto_none sep (x ∷ xs) = go (eqb x sep) (parts sep xs)
     go false (p ∷ ps) = refl
 
 -- there is always a part
-gathered-more :
+gathered_more :
     (before : List Field) (x : Field) (ps : List (List ℕ))
     → gathered before (x ∷ map field_of (onto [] ps)) ≡ gathered (before ++ x ∷ []) (map field_of (onto [] ps))
-gathered-more before x [] = refl
-gathered-more before x (p ∷ ps) = refl
+gathered_more before x [] = refl
+gathered_more before x (p ∷ ps) = refl
 
 -- what the rest adds where the last field so far is g's
 abbrev Gathers : List ℕ → List ℕ → List Field → Type 0
@@ -109,9 +109,9 @@ gathers (b ∷ bs) g before = go (eqb b 9) refl (gathers bs)
     go : (t : Bool) → eqb b 9 ≡ t → ((g : List ℕ) (before : List Field) → Gathers bs g before) → Gathers (b ∷ bs) g before
     go true e ih =
         let ended : pushes (held (before ++ field_of g ∷ []) (field_of [])) bs ≡ gathered before (field_of (g ++ []) ∷ map field_of (parts 9 bs)) =
-        rw (append-nil, ← onto_none 9 bs, gathered-more) (ih [] _) in
-        rw (push-is, e) ended
-    go false e ih = rw (push-is, e, extended_is, onto_first, ih)
+        rw (append-nil, ← onto_none 9 bs, gathered_more) (ih [] _) in
+        rw (push_is, e) ended
+    go false e ih = rw (push_is, e, extended_is, onto_first, ih)
 
 -- a line taken byte by byte
 pub fields_held : (line : List ℕ) → pushes empty line ≡ held_fields (fields_of line)

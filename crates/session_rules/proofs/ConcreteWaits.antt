@@ -106,10 +106,10 @@ awaiting_meets =
     }
 
 -- L+D is 21
-pub awaiting-stops :
+pub awaiting_stops :
     (n : ℕ)
     → ShowsInTime (sends bench.one_stop) unit.B (said_text n (line_reply (pair_after just_reset awaiting_lines) (bytes "B\tB\t21")).said) (line_reply (pair_after just_reset awaiting_lines) (bytes "B\tB\t21")).pair
 unfolding awaiting_meets answer_text lines_taken lines_of two three four five obey line_reply wait decimal refusal_text value_text held_text wait_text counts_text row_text said_text field_of fields_of part odd_ones parity_bit sample link-transmitting.transmit link-hearing.receive line-range.in_range sender_in_range receiver_in_range format_of status_byte in_range settled write_refusal read_register read write_register write pinned set_pins transmit_tick transmit receive_tick receive stamp tick
-awaiting-stops =
+awaiting_stops =
     text_waits bench.one_stop bench.two_stops bench.one_stop_proper bench.two_stops_proper bench.stops_agree unit.B awaiting_lines awaiting_meets (ltb-true 0 1 refl) 21 (bytes "B\tB\t21")
     (print_printed (Wait (code "B") 21) refl) (leb-true 21 21 refl) (leb-true 21 65535 refl)

@@ -116,10 +116,10 @@ module _ {s t : Session} {piece out₀ out : List ℕ} {used at : ℕ} (g : Goin
         })
 
     -- a newline ends the line under way
-    pub goes-ended :
+    pub goes_ended :
         t.lines < 65535 → get_or piece used 0 ≡ code "\n" → u ≡ ended t → Put out at (said_text (t.lines + 1) (held_reply t).said) out' at' → Going s piece out₀ out' u (used + 1) at'
     unfolding after said
-    goes-ended on is e p = goes_on_lem (rw (lt-ltb _ _ on, eq-eqb _ _ is) e) (rw (lt-ltb _ _ on, eq-eqb _ _ is) p)
+    goes_ended on is e p = goes_on_lem (rw (lt-ltb _ _ on, eq-eqb _ _ is) e) (rw (lt-ltb _ _ on, eq-eqb _ _ is) p)
 
     -- another byte is of that line
     pub goes_pushed : t.lines < 65535 → (get_or piece used 0 ≡ code "\n" → ⊥) → u ≡ pushed t (get_or piece used 0) → out' ≡ out → at' ≡ at → Going s piece out₀ out' u (used + 1) at'

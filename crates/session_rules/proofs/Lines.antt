@@ -37,11 +37,11 @@ use Rattle.session_rules.specs.Whole.{answers, refusals}
 -- == a wait ==
 
 -- within its limit it says the least number of joined ticks that brings a character, or the limit (`wait_least` of `joined_rules`), and does as many
-pub wait-says :
+pub wait_says :
     (p : Pair) (unit limit : ℕ) → limit ≤ 65535
     → obey p (Wait unit limit) ≡ record { pair = ticks (ticks_until p (unit_of unit) limit) p; said = said.Waited unit (ticks_until p (unit_of unit) limit) }
 unfolding obey
-wait-says p unit limit h = rw (wait_done p (unit_of unit) limit h)
+wait_says p unit limit h = rw (wait_done p (unit_of unit) limit h)
 
 -- == which number ==
 
