@@ -11,12 +11,13 @@ ghost use Rattle.pair_host.specs.Replies.{levels_sent, unit_of, wait_answer};
 
 use joined_rules::{Pair, Unit};
 
-// An act by value: its answer as one number, and the pair after it.
+// An act by value: the pair after it, and its answer as one number. In this order it is copied without a call of C's memcpy, which the
+// archive does not have.
 #[repr(C)]
 #[derive(Clone, Copy)]
 pub struct PairReply {
-    pub answer: u16,
     pub pair: Pair,
+    pub answer: u16,
 }
 
 // A wait by value: its refusal and count as one number, and the pair after it.
