@@ -2,5 +2,8 @@ pub mod Calls
 pub mod Bytes
 pub mod Lent
 pub mod Again
+pub mod InTurn
+pub mod Spares
+pub mod Decides
 pub mod Promises
 pub mod TakenApart
