@@ -5,5 +5,8 @@ pub mod Again
 pub mod InTurn
 pub mod Spares
 pub mod Decides
+pub mod Either
+pub mod Looks
+pub mod Refusable
 pub mod Promises
 pub mod TakenApart
