@@ -2,6 +2,8 @@
 // they answered. tests/speed/polls/run measures it.
 #![tactic(auto)]
 
+ghost use Rattle.std.specs.Prelude.{◌≤◌, IfOk};
+
 use ins2651_rules::Device;
 use std::io;
 use std::io::Read;
@@ -68,7 +70,9 @@ fn polls(room: [Device; 16], n: u64) -> u32 {
 }
 
 // How many bytes the input has, of which no more than 65,536 are read.
-fn batches<R: Read>(input: &mut R) -> io::Result<usize> {
+fn batches<R: Read>(input: &mut R) -> io::Result<usize>
+    ensures { IfOk result (λ n. n ≤ 65536) }
+{
     let mut space = [0u8; 65536];
     let mut count = 0;
     while count < space.len() {

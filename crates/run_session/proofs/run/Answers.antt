@@ -8,4 +8,4 @@ pub returns : goal.returns
 returns g c = λ fine.
     let said = c.ending-n.ensures.said ∙ last_fine c.whole-w.result fine in
     answers_all c.begin.ensures (c.whole-w.ensures.passed fine) _
-      (subst (Appends (g.W.Write.contents c.whole-w.new.output) (g.W.Write.contents c.write_all.new.self)) said (done _ (sym c.is_err.ensures.value ∙ c.if-is_err.false) c.write_all.ensures.bytes))
+    (subst (Appends (g.W.Write.contents c.whole-w.new.output) (g.W.Write.contents c.write_all.new.self)) said (done _ (sym c.is_err.ensures.value ∙ c.if-is_err.false) c.write_all.ensures.bytes))

@@ -8,5 +8,5 @@ abbrev pub invariant-loop : goal.invariant-loop
 invariant-loop g l = record {
   fed : l.w.failed ≡ false → Fed l.initial.w.session l.w;
   passed : l.w.failed ≡ false
-  → Passed l.initial.w.session l.counter (g.R.Read.remaining l.initial.input) (g.R.Read.remaining l.input) (g.W.Write.contents l.initial.output) (g.W.Write.contents l.output) l.w;
+      → Passed l.initial.w.session l.counter (g.R.Read.remaining l.initial.input) (g.R.Read.remaining l.input) (g.W.Write.contents l.initial.output) (g.W.Write.contents l.output) l.w;
 }
