@@ -131,12 +131,12 @@ fn probe(crate_name: &str, folder: &Path, falls: &[&String]) -> io::Result<()> {
         for module in declared(folder, name) {
             uses += &format!("use Rattle.{crate_name}.proofs.{module}.{{{name}}}\n");
         }
-        probes += &format!("\nfalls_{at} : ℕ\nfalls_{at} = taken {name}\n");
+        probes += &format!("\nfalls_{at} : ℕ\nfalls_{at} = uses_it {name}\n");
     }
-    let taken = "\ntaken : {A : Type 0} → A → ℕ\ntaken _ = 0\n";
+    let uses_it = "\nuses_it : {A : Type 0} → A → ℕ\nuses_it _ = 0\n";
     fs::write(
         folder.join(PROBES),
-        format!("use Rattle.std.proofs.Common.{{ℕ}}\n{uses}{taken}{probes}"),
+        format!("use Rattle.std.proofs.Common.{{ℕ}}\n{uses}{uses_it}{probes}"),
     )?;
     let root = folder.join("proofs/Lib.antt");
     let text = fs::read_to_string(&root)?;

@@ -1,5 +1,6 @@
 //! What a check said of an edited crate: which declarations were refused, and for which of them the error is their own.
 
+use crate::check::PROBES;
 use std::path::Path;
 
 /// Why a declaration was not admitted.
@@ -14,7 +15,8 @@ pub enum Why {
 }
 
 /// A declaration of an .antt file below proofs/ or specs/; one whose dependents in a file were not checked, as it was not admitted itself; a
-/// goal of a function that no proof file answers, at its line of src/; or an error that names no declaration, as of a text that cannot be read.
+/// goal of a function that no proof file answers, at its line of src/, or by the function alone; or an error that names no declaration, as of
+/// a text that cannot be read.
 #[derive(Debug, Clone, PartialEq)]
 pub enum Refusal {
     Declaration {
@@ -32,6 +34,9 @@ pub enum Refusal {
         line: usize,
         /// what is known there allows values at which it is false
         may_be_false: bool,
+    },
+    Open {
+        function: String,
     },
     Nameless {
         line: String,
@@ -78,6 +83,13 @@ fn fallen(message: &str) -> Option<(String, Vec<String>)> {
     Some((cause.into(), names.collect()))
 }
 
+/// ``fn CRATE::PATH: no proof: .. `search` did not prove `GOAL`, ..``: the path. A function that only calls one with no proof has no such words.
+fn open(line: &str) -> Option<String> {
+    let (path, rest) = line.strip_prefix("fn ")?.split_once(": no proof: ")?;
+    let is_open = rest.contains("`search` did not prove `");
+    Some(path.split_once("::")?.1.to_string()).filter(|_| is_open)
+}
+
 /// The refusals of a log of `rt check`.
 pub fn refusals(log: &str) -> Vec<Refusal> {
     let mut found = Vec::new();
@@ -95,6 +107,10 @@ pub fn refusals(log: &str) -> Vec<Refusal> {
             let named = message
                 .strip_prefix('`')
                 .and_then(|text| text.split_once("`:"));
+            let is_unfit_import = |file: &str| {
+                (file == PROBES || file.starts_with("proofs/") && file.matches('/').count() > 1)
+                    && why(rest) == Why::Unfit
+            };
             found.push(match (place(path), named, fallen(rest)) {
                 (Some((file, _)), _, Some((cause, names))) => {
                     Refusal::Fallen { file, cause, names }
@@ -104,6 +120,12 @@ pub fn refusals(log: &str) -> Vec<Refusal> {
                     name: name.into(),
                     why: why(message),
                 },
+                // an import of a goal, or of what is private
+                (Some((file, _)), None, None) if is_unfit_import(&file) => Refusal::Declaration {
+                    file,
+                    name: String::new(),
+                    why: Why::Unfit,
+                },
                 _ => Refusal::Nameless {
                     line: line.to_string(),
                 },
@@ -112,6 +134,8 @@ pub fn refusals(log: &str) -> Vec<Refusal> {
             found.push(Refusal::Nameless {
                 line: line.to_string(),
             });
+        } else if let Some(function) = open(line) {
+            found.push(Refusal::Open { function });
         } else if let Some((path, rest)) = line
             .strip_prefix("note: ")
             .and_then(|note| note.split_once(": it is not proved that "))
@@ -165,6 +189,7 @@ pub fn functions_with<'a>(source: &'a str, text: &str) -> Vec<&'a str> {
 
 /// Where a function stands: its file of src/, and the folder of its proof files, below the crate's folder.
 pub struct Function {
+    pub name: String,
     pub source: String,
     pub lines: (usize, usize),
     pub proofs: String,
@@ -191,6 +216,7 @@ pub fn function(room: &Path, name: &str) -> Option<Function> {
         .find(|folder| room.join(folder).is_dir())
         .unwrap_or_else(|| format!("proofs/{folder}{last}"));
     Some(Function {
+        name: name.to_string(),
         source,
         lines,
         proofs,
@@ -223,6 +249,7 @@ pub fn function_refused(function: &Function, refusals: &[Refusal]) -> bool {
                     && (function.lines.0..=function.lines.1).contains(line)
                     && (fits || *may_be_false)
             }
+            Refusal::Open { function: open } => fits && *open == function.name,
             _ => false,
         })
 }
@@ -235,7 +262,7 @@ fn law_files(room: &Path) -> Vec<(String, String)> {
         .flatten()
         .map(|entry| entry.path());
     files
-        .filter(|path| path.extension().is_some_and(|end| end == "antt"))
+        .filter(|path| path.extension().is_some_and(|end| end == "antt") && !path.ends_with(PROBES))
         .filter_map(|path| {
             let stem = path.file_stem()?.to_string_lossy().into_owned();
             Some((stem, std::fs::read_to_string(path).ok()?))

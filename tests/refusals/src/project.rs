@@ -1,6 +1,5 @@
 //! The edits of a project, what the logs of their checks show, and the table of `docs/PROMISES.md`.
 
-use crate::check::PROBES;
 use crate::edit::{programs, Pair, Program};
 use crate::log::{
     declaration_refused, declared, function, function_refused, functions_with, has_functions,
@@ -98,8 +97,7 @@ pub fn faults(edit: &Edit, room: &Path, log: &str) -> Vec<String> {
                     "{full}: the definition {name} itself is refused, in {file}"
                 ));
             }
-            // a probe may name what is private
-            Refusal::Nameless { line } if !line.contains(PROBES) => faults.push(format!(
+            Refusal::Nameless { line } => faults.push(format!(
                 "{full}: an error that names no declaration: {line}"
             )),
             _ => {}

@@ -129,6 +129,9 @@ fn a_function_is_refused_at_its_lines() {
     assert!(said("proved", "# refused at: proved", &at(8)).is_empty());
     let calls = "fn line::plain: no proof: it calls `line::proved`, which is not proved\n";
     assert_eq!(said("calls", "# refused at: plain", calls).len(), 1);
+    let open = "fn line::plain: no proof: expected answers in ./proofs/plain/Answers.antt; `search` did not prove `returns`; it calls `line::proved`, which is not proved\n";
+    assert!(said("open", "# refused at: plain", open).is_empty());
+    assert_eq!(said("other-open", "# refused at: proved", open).len(), 1);
 }
 
 #[test]
@@ -141,6 +144,8 @@ fn a_proof_file_that_does_not_fit_the_code_shows_nothing() {
         let unfit = format!("./proofs/proved/Answers.antt:3:4: error: `returns`: {message}\n");
         assert_eq!(said("unfit", "# refused at: proved", &unfit).len(), 1);
     }
+    let import = "./proofs/proved/Answers.antt:3:4: error: module `Rattle.line.proofs.proved.Goals` has no `then-b` that can be named from here\n";
+    assert_eq!(said("import", "# refused at: proved", import).len(), 1);
     // a goal is then open in any case, and says something where it may be false
     let note = |more: &str| format!("{UNFIT}note: src/lib.rt:8:1: {NOTE}{more}\n");
     assert_eq!(said("open", "# refused at: proved", &note("")).len(), 1);
@@ -165,6 +170,7 @@ fn a_definition_that_is_refused_itself_is_told() {
 fn an_error_that_names_no_declaration_is_told() {
     for line in [
         "./proofs/Laws.antt:3:4: error: this cannot be read\n",
+        "./specs/Rule.antt:3:4: error: module `Rattle.line.specs.Rules` has no `rule` that can be named from here\n",
         "src/lib.rt:3:4: error[mismatched-types]: expected `u8`, found `bool`\n",
     ] {
         assert_eq!(
