@@ -5,7 +5,7 @@ use mathlib.Core.Path.{◌≡◌}
 use Prim.Native.Nat.{ℕ, zero, suc, ◌<◌, ◌^◌}
 use mathlib.Core.List.{[], ◌∷◌, List}
 use seplogic.Ra.Ura.{Ura}
-use mir.Syntax.{Width, Name, Local, local, value_local, Fn, Ty, ty_int, ty_bool, ty_ref, named, mut, w16, w64, deref, field, place, Opd as Operand, copy, rv_opd, Body as Code, skip, seq, assign, cond, call}
+use mir.Syntax.{Width, Callee as Name, Local, local, value_local, Fn, Ty, ty_int, ty_bool, ty_ref, named, mut, w64, deref, field, place, copy, rv_opd, Body as Code, skip, seq, assign, cond, call}
 use mir.Val.{Val}
 use base.Logic.{ent, emp, snd∗, ex_e}
 use types.Logic.{Logic, sem}
@@ -176,21 +176,24 @@ valued [] = []
 valued (τ ∷ τs) = local τ value_local ∷ valued τs
 
 -- the plan is made, its board stored, and where it ends there `early` runs; else the rest. Behind the bytes stand the plan, the board's copy, the count
--- of channels, a test, and then the locals of the rest
+-- of channels, the plan's board, a test, and then the locals of the rest
 abbrev pub function : Width → ℕ → Name → Code → List Ty → Code → Fn
 function w n f early τs rest =
     record {
       lifetimes = 2;
       outlives = [];
+      ty_params = [];
+      givens = 0;
       params = suc (suc n);
       locals = local (ty_int w) value_local ∷ local board_ref value_local ∷ local room_ref value_local
-          ∷ byte_locals n (local P'.mir value_local ∷ local B'.mir value_local ∷ local (ty_int w64) value_local ∷ local ty_bool value_local ∷ valued τs);
+          ∷ byte_locals n (local P'.mir value_local ∷ local B'.mir value_local ∷ local (ty_int w64) value_local ∷ local B'.mir value_local ∷ local ty_bool value_local ∷ valued τs);
       body =
           seq (assign (place (at n 1) []) (rv_opd (copy (place 1 (deref B'.mir ∷ [])))))
           (seq (assign (place (at n 2) []) (rv_opd (copy (place 2 (field 1 ∷ [])))))
           (seq (call f (copy (place (at n 1) []) ∷ copy (place (at n 2) []) ∷ copies 3 n) (place (at n 0) []))
-          (seq (assign (place 1 (deref B'.mir ∷ [])) (rv_opd (copy (place (at n 0) (field 2 ∷ [])))))
-          (seq (assign (place (at n 3) []) (rv_opd (copy (place (at n 0) (field 3 ∷ [])))))
-          (seq (cond (copy (place (at n 3) [])) early skip)
-          rest)))));
+          (seq (assign (place (at n 3) []) (rv_opd (copy (place (at n 0) (field 2 ∷ [])))))
+          (seq (assign (place 1 (deref B'.mir ∷ [])) (rv_opd (copy (place (at n 3) []))))
+          (seq (assign (place (at n 4) []) (rv_opd (copy (place (at n 0) (field 3 ∷ [])))))
+          (seq (cond (copy (place (at n 4) [])) early skip)
+          rest))))));
     }
