@@ -121,7 +121,7 @@ module _ {M : Type 1} {𝓤 : Ura M} (𝓛 : Logic 𝓤) where
     spelt_out κs a = valss (types_at (on_board w n).signature.params κs) (spells κs) a
 
     abbrev loan_of : (κs : Lfts 2) (qs : Shares 2) → Args (on_board w n).signature κs → Loan
-    loan_of κs qs a = record { κo = κs.0; κ = κs.1.0; qo = qs.0; q = qs.1.0; bo = a.0.ptr.0; oo = a.0.ptr.1; γo = a.0.name; b = a.1.0.ptr.0; o = a.1.0.ptr.1; γ = a.1.0.name }
+    loan_of κs qs a = record { κo = κs.0; κ = κs.1.0; qo = qs.0; q = qs.1.0; bo = a.0.ref_ptr.0; oo = a.0.ref_ptr.1; γo = a.0.ghost_name; b = a.1.0.ref_ptr.0; o = a.1.0.ref_ptr.1; γ = a.1.0.ghost_name }
 
     module _ (𝓣 : Tables 𝓤 H) (fn : Fn) (walk : Walk w n P 𝓣 fn) where
       walks : (κs : Lfts 2) (qs : Shares 2) (a : Args (on_board w n).signature κs)
