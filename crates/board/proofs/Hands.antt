@@ -1,15 +1,15 @@
 -- A channel of a lent room is lent to a lent call of the chip, for a lifetime that is made for the call, and comes back at what that call left; the others
 -- stay: the step of a walk over `&mut room[c]` and the call (`hands`). All that is known of the callee is its contract.
 -- Assumes nothing.
-use mathlib.Core.Path.{◌≡◌, refl, sym}
+use mathlib.Core.Path.{refl, sym}
 use Prim.Native.Nat.{ℕ, zero, ◌<◌, ◌^◌, ◌*◌}
 use mathlib.Core.List.{[], ◌∷◌, List}
 use native.Mathlib.Omega.{arith}
 use native.Mathlib.Nat.{mul-le-mul_right, le_of_lt}
 use lib.ListN.{length, set, length-set}
 use seplogic.Ra.Ura.{Ura}
-use seplogic.Ra.TreeShare.{full_share}
-use mir.Syntax.{Name, ty_int, ty_ptr, named, w8, w16, w64, offset, deref, field, place, Opd as Operand, copy, op2, Body as Code, seq, assign, addr_of, call}
+use base.Fraction.{full_share}
+use mir.Syntax.{Callee as Name, ty_int, ty_ptr, named, w8, w16, w64, offset, deref, field, place, Opd as Operand, copy, op2, Body as Code, seq, assign, addr_of, call}
 use mir.Val.{Val, vint, vptr}
 use base.Fml.{GName, fsep, fat, froom, flent}
 use prog.Wp.{Env, Calls, Loops}
@@ -22,7 +22,7 @@ use types.SemTy.{Body}
 use sound.WpLaws.{FmC}
 use denote.Laws.{Is, shows}
 use denote.Memory.{mem, cell_at, part_of}
-use denote.Slice.{slice_val, Room}
+use denote.Slice.{slice_val}
 use denote.Index as I
 use denote.Index.{place_is, elem_out, elem_put, opens_slice, closes_slice}
 use denote.Lend.{lends_ref, ref_back}

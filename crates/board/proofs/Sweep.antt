@@ -8,8 +8,8 @@ use lib.Dec.{T, ltb}
 use lib.ListN.{length, set, length-set}
 use borrow.Author.Tests.{lt-ltb}
 use seplogic.Ra.Ura.{Ura}
-use seplogic.Ra.TreeShare.{full_share}
-use mir.Syntax.{Name, Ty, Width, ty_int, ty_ptr, w16, w64, int, Body as Code}
+use base.Fraction.{full_share}
+use mir.Syntax.{Callee as Name, Ty, Width, ty_int, ty_ptr, w16, w64, int, Body as Code}
 use mir.Val.{vint}
 use base.Fml.{fat, froom, fdies}
 use prog.Wp.{Env, Calls, Loops}
