@@ -1,22 +1,22 @@
--- A summary of the board, the answers of m channels and the bytes is called by value, and its number is kept (`sums`). All that is known of it is its contract.
+-- A summary of the plan's board, the answers of m channels and the bytes is called by value, and its number is kept (`sums`). All that is known of it is its
+-- contract.
 -- Assumes nothing.
 use mathlib.Core.Path.{◌≡◌, refl, ap, sym, subst, ◌∙◌}
 use Prim.Native.Nat.{ℕ, zero, suc, ◌<◌, ◌^◌}
 use mathlib.Core.List.{[], ◌∷◌, List}
 use lib.Dec.{T}
 use seplogic.Ra.Ura.{Ura}
-use seplogic.Ra.TreeShare.{full_share}
-use mir.Syntax.{Width, Name, Ty, ty_int, ty_ptr, w16, field, place, Opd as Operand, copy, Body as Code, seq, call}
+use base.Fraction.{full_share}
+use mir.Syntax.{Width, Callee as Name, Ty, ty_int, ty_ptr, w16, place, Opd as Operand, copy, Body as Code, seq, call}
 use mir.Val.{Val, vint, has_ty, WT, bits}
 use mir.ValLaws.{eq_w_refl}
 use base.Logic.{ent, emp, id⊢}
 use base.Fml.{ftrue, fat, froom, fdies}
-use prog.Wp.{Env, Calls, Loops}
+use prog.Wp.{Calls, Loops}
 use types.Logic.{Logic, sem}
 use contract.Monad.{fact}
 use types.Kit.{Item, Post, Go, Seq, Goal, runs, ‵, raw, ◌⊛◌, some, later, ◌$◌, ◌∵◌, !, qed, move, drop, use0, use1, split, join, pick, fjoin, frame, rewrite, await, done}
-use types.Run.{Opds, look, init, stop, fld, load, and_then, land}
-use types.Part.{whole, sub, look_in}
+use types.Run.{Opds, look, init, stop, load, and_then, land}
 use sound.WpLaws.{FmC}
 use denote.RattleType.{Denots, Valss, flat, owns}
 use denote.Laws.{Is, shows}
@@ -28,18 +28,16 @@ use denote.Struct.Laws as LL
 use denote.Triple.Statement.{Triple}
 use denote.Triple.Call.{calls_at}
 use denote.Triple.Clauses.{ensured}
-use Rattle.board_rules.specs.declared.Board.{Board}
 use Rattle.board_rules.specs.contracts.Board as B
 use Rattle.board_rules.proofs.Board.TheLaws as B'
 use Rattle.board.specs.declared.Plan.{Plan}
-use Rattle.board.proofs.Plan.TheLaws as P'
 use Rattle.host.proofs.Calls.{Bytes, bytes, copies}
-use Rattle.host.proofs.Bytes.{Fit, denots, spelled, numbers_are, own_bytes, cells, behind, stands, carried}
+use Rattle.host.proofs.Bytes.{Fit, denots, spelled, numbers_are, own_bytes, cells, behind, Stands, stands, carried}
 use Rattle.host.proofs.Again.{reborrow}
-use Rattle.board.proofs.Calls.{board_vals, plan_val, Parts, words, words_of, bytes_of, Summaries, summing, SumClauses, Summing, sum_of, summed, at}
+use Rattle.board.proofs.Calls.{board_vals, board_val, Parts, words, words_of, bytes_of, Summaries, summing, SumClauses, Summing, sum_of, summed, at}
 use Rattle.board.proofs.Slots.{Blocks, SlotsStand}
 use Rattle.board.proofs.Sweep.{threes, Small, answered}
-use Rattle.board.proofs.Begins.{Places, behind_bytes, locals, given_stand, at_plan, at_answer, read_given}
+use Rattle.board.proofs.Begins.{Places, behind_bytes, locals, given_stand, behind_at, at_answer, read_given}
 
 -- == as arguments ==
 
@@ -114,19 +112,20 @@ module _ {M : Type 1} {𝓤 : Ura M} (𝓛 : Logic 𝓤) where
     abbrev sum : ℕ
     sum = F s.board vs xs
 
-    abbrev with_sum : Item 𝓤 → List (Item 𝓤) → List (Item 𝓤)
-    with_sum answer Γ = answered m τs bs vs ∷ ‵ (fat full_share P'.mir p.plan zero (plan_val s)) ∷ cells n p.given xs ∷ answer ∷ Γ
+    -- the plan's board stands in block lb, at place i behind the bytes
+    abbrev with_sum : ℕ → Item 𝓤 → List (Item 𝓤) → List (Item 𝓤)
+    with_sum lb answer Γ = answered m τs bs vs ∷ ‵ (fat full_share B'.mir lb zero (board_val s.board)) ∷ cells n p.given xs ∷ answer ∷ Γ
 
-    pub sums : {C : Calls 𝓤 H} {Λ : Loops 𝓤 H} {q : Post 𝓤 H} {Γ : List (Item 𝓤)} {g : Name} {rest : Code}
-        → SlotsStand (behind_bytes w n σs p) j (threes m τs) bs → FmC 𝓤 H 𝓛.laws C → Triple 𝓤 (C g) (Summing 𝓛 w m n F) → Parts s → Small m vs → Fit n xs
-        → (sum < 2 ^ bits w → Seq (Go {0}) 𝓛 (with_sum (‵ (fat full_share (ty_int w) p.answer zero (vint w sum))) Γ) (runs C Λ (locals w n σs p) rest q))
-        → Seq (Go {0}) 𝓛 (with_sum (‵ (froom (ty_int w) p.answer zero)) Γ)
-        (runs C Λ (locals w n σs p) (seq (call g (copy (place (at n 0) (field 2 ∷ [])) ∷ every_third n j m (copies 3 n)) (place 0 [])) rest) q)
-    sums {Γ = Γ} stand fm known of small fits k =
+    pub sums : (i lb : ℕ) {C : Calls 𝓤 H} {Λ : Loops 𝓤 H} {q : Post 𝓤 H} {Γ : List (Item 𝓤)} {g : Name} {rest : Code}
+        → Stands (behind_bytes w n σs p) i B'.mir lb → SlotsStand (behind_bytes w n σs p) j (threes m τs) bs → FmC 𝓤 H 𝓛.laws C → Triple 𝓤 (C g) (Summing 𝓛 w m n F) → Parts s → Small m vs → Fit n xs
+        → (sum < 2 ^ bits w → Seq (Go {0}) 𝓛 (with_sum lb (‵ (fat full_share (ty_int w) p.answer zero (vint w sum))) Γ) (runs C Λ (locals w n σs p) rest q))
+        → Seq (Go {0}) 𝓛 (with_sum lb (‵ (froom (ty_int w) p.answer zero)) Γ)
+        (runs C Λ (locals w n σs p) (seq (call g (copy (place (at n i) []) ∷ every_third n j m (copies 3 n)) (place 0 [])) rest) q)
+    sums i lb at-board stand fm known of small fits k =
         owned ! B.the_row (Is B.the_row) (LL.makes B.the_type B'.the_plain 𝓛) s.board (board_vals s.board) of.board $ use1 𝓛 (raw ((Summing 𝓛 w m n F).pre to_sum)) (goes_sum small fits) $
-        -- [what the summary asks; the answers; the plan; the bytes; the answer; …]
+        -- [what the summary asks; the answers; the plan's board; the bytes; the answer; …]
         calls_at ! fm (Summing 𝓛 w m n F) known to_sum
-        (and_then ! (load ! (at_plan 𝓛 w n σs p _ _ _ (fld ! refl (stop !))) (look_in ! 2 (sub ! 2 refl (whole !))))
+        (and_then ! (load ! (behind_at 𝓛 w n σs p i B'.mir lb at-board _ _ _ (stop !)) (look ! 2 refl))
         (carried 𝓛 (λ G t. move ! (1 ∷ []) $ t) (λ G t. move ! (1 ∷ 0 ∷ []) $ t)
         (read_words w n σs p xs m j τs bs vs _ stand
         (carried 𝓛 (λ G t. move ! (3 ∷ []) $ t) (λ G t. move ! (1 ∷ 2 ∷ 3 ∷ 0 ∷ []) $ t) (read_given 𝓛 n p.given xs _ (locals w n σs p) 3 (given_stand w n σs p)))))) (λ v.
