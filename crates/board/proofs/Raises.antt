@@ -1,14 +1,14 @@
 -- A plan that ends a call of 32 bits: its answer is made one of 32 bits by value (`stops_wide`). All that is known of that function is its contract.
 -- Assumes nothing.
 use mathlib.Core.Path.{◌≡◌, refl, ap, sym, subst, ◌∙◌}
-use Prim.Native.Nat.{ℕ, ◌<◌, ◌^◌, ◌*◌}
+use Prim.Native.Nat.{ℕ, ◌<◌, ◌^◌}
 use mathlib.Core.Bool.{true}
 use mathlib.Core.List.{[], ◌∷◌, List}
 use lib.Dec.{T}
 use lib.ListN.{length}
 use seplogic.Ra.Ura.{Ura}
-use seplogic.Ra.TreeShare.{full_share}
-use mir.Syntax.{Name, Ty, ty_int, w16, w32, field, place, copy, Body as Code, seq, call, return}
+use base.Fraction.{full_share}
+use mir.Syntax.{Callee as Name, Ty, ty_int, w16, w32, field, place, copy, Body as Code, seq, call, return}
 use mir.Val.{Val, vint, has_ty, WT}
 use base.Logic.{SProp, ent, emp, id⊢, snd∗, ex_e}
 use base.Fml.{ftrue, fat}
