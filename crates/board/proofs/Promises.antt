@@ -8,8 +8,7 @@ use native.Mathlib.Omega.{arith}
 use lib.Dec.{eqb, ltb}
 use lib.ListN.{length, set, replicate}
 use borrow.Author.Tests.{eqb-true, eqb-false, ltb-true, ltb-false, eq-eqb, ne_eqb, not-true, not-false}
-use Rattle.line_rules.proofs.Choice.{either, neither}
-use Rattle.line_rules.proofs.Table.{both}
+use Rattle.line_rules.proofs.Choice.{neither}
 use Rattle.ins2651_rules.specs.declared.Device.{Device}
 use Rattle.ins2651_rules.specs.Shape.{reset_device}
 use Rattle.ins2651_rules.specs.Modes.{has}
