@@ -36,7 +36,7 @@ receive_fits d x = small d (chip.Receive x)
 
 -- == eight channels ==
 
-of_eight : (P : List Device → Type 0) → ((a b c d e f g h : Device) → P (a ∷ b ∷ c ∷ d ∷ e ∷ f ∷ g ∷ h ∷ [])) → (ys : List Device) → length ys ≡ 8 → P ys
+pub of_eight : (P : List Device → Type 0) → ((a b c d e f g h : Device) → P (a ∷ b ∷ c ∷ d ∷ e ∷ f ∷ g ∷ h ∷ [])) → (ys : List Device) → length ys ≡ 8 → P ys
 of_eight P k [] n = absurd (omega (arith, n))
 of_eight P k (a ∷ []) n = absurd (omega (arith, n))
 of_eight P k (a ∷ b ∷ []) n = absurd (omega (arith, n))
@@ -56,7 +56,7 @@ pub room_reset : (ys : List Device) → length ys ≡ 8 → put ys reset_device 
 room_reset = of_eight (λ ys. put ys reset_device reset_device reset_device reset_device reset_device reset_device reset_device reset_device ≡ replicate 8 reset_device) (λ a b c d e f g h. refl)
 
 -- the bit of weight m of a status, as it is shown
-shown_bit : (m v : ℕ) → v / m % 2 ≡ weigh (has m v) 1
+pub shown_bit : (m v : ℕ) → v / m % 2 ≡ weigh (has m v) 1
 shown_bit m v = go (v / m % 2) refl (below_two (v / m))
   where
     below_two : (x : ℕ) → x % 2 < 2
@@ -67,7 +67,7 @@ shown_bit m v = go (v / m % 2) refl (below_two (v / m))
     go (suc zero) e l = rw e refl
     go (suc (suc r)) e l = absurd (omega (arith, l))
 
-low_bits_so : (a b c d e f g h : ℕ) → low_bits a b c d e f g h ≡ a % 2 + 2 * (b % 2 + 2 * (c % 2 + 2 * (d % 2 + 2 * (e % 2 + 2 * (f % 2 + 2 * (g % 2 + 2 * (h % 2 + 2 * 0)))))))
+pub low_bits_so : (a b c d e f g h : ℕ) → low_bits a b c d e f g h ≡ a % 2 + 2 * (b % 2 + 2 * (c % 2 + 2 * (d % 2 + 2 * (e % 2 + 2 * (f % 2 + 2 * (g % 2 + 2 * (h % 2 + 2 * 0)))))))
 unfolding low_bits
 low_bits_so a b c d e f g h = omega arith
 
