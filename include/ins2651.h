@@ -4,7 +4,7 @@
  * - No global state: a call reads and changes the device lent to it, and nothing else.
  * - One device may be used by one thread at a time.
  * - The archive, target/staticlib/libhost.a, has no undefined symbols: it needs no other code, not even a C library. It is x86-64 code,
- *   which `rt staticlib host` proves and writes.
+ *   which `tools/cc` has proved and built (`rt lib` in crates/host_c).
  * - Arguments are bytes. C cuts a larger number to its low eight bits before the call, so 256 arrives as 0 and is not refused;
  *   -Wconversion shows such a place. */
 #ifndef INS2651_H

@@ -7,7 +7,7 @@
  * - No global state: a call reads and changes the pair lent to it, and nothing else.
  * - One pair, with both its devices, may be used by one thread at a time.
  * - The archive, target/staticlib/libpair_host.a, has no undefined symbols, and links beside the others in any order. It is x86-64 code,
- *   which `rt staticlib pair_host` proves and writes.
+ *   which `tools/cc` has proved and built (`rt lib` in crates/pair_host_c).
  * - A count of ticks, a limit and a unit have 32 bits. C cuts a larger number before the call, so 4294967296 arrives as 0 and is not
  *   refused; -Wconversion shows such a place. */
 #ifndef INS2651_PAIR_H

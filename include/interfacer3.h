@@ -7,7 +7,7 @@
  * - No global state: a call reads and changes the board and the channels lent to it, and nothing else.
  * - One board, with all its channels, may be used by one thread at a time.
  * - The archive, target/staticlib/libboard.a, has no undefined symbols, and links beside the others in any order. It is x86-64 code, which
- *   `rt staticlib board` proves and writes.
+ *   `tools/cc` has proved and built (`rt lib` in crates/board_c).
  * - Arguments are bytes, as in ins2651.h: C cuts a larger number before the call, and -Wconversion shows such a place. */
 #ifndef INTERFACER3_H
 #define INTERFACER3_H

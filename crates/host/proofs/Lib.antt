@@ -1,2 +1,12 @@
+pub mod Calls
+pub mod Bytes
+pub mod Lent
+pub mod Again
+pub mod InTurn
+pub mod Spares
+pub mod Decides
+pub mod Either
+pub mod Looks
+pub mod Refusable
 pub mod Promises
 pub mod TakenApart
