@@ -281,7 +281,7 @@ pub fn interfacer3_in(board: &mut Board, room: &mut [Device], port: u8) -> u16
 }
 
 // Writes a port: 0 to 3 are the selected channel's registers, 4 and 5 the masks, 7 the select.
-#[tactic(auto, using(crate::proofs::Promises::write_small), unfolding(board_rules::specs::Runs::answer, board_rules::specs::Runs::said, board_rules::specs::Runs::board_after, board_rules::specs::Runs::room_after, crate::specs::Plans::plan_out))]
+#[tactic(auto, using(crate::proofs::Eight::write_fits), unfolding(board_rules::specs::Runs::answer, board_rules::specs::Runs::said, board_rules::specs::Runs::board_after, board_rules::specs::Runs::room_after, crate::specs::Plans::plan_out))]
 pub fn interfacer3_out(board: &mut Board, room: &mut [Device], port: u8, value: u8) -> u16
     ensures answer { result ≡ answer board.old room.old (Out port value) }
     ensures board { board.new ≡ board_after board.old room.old (Out port value) }
@@ -296,7 +296,7 @@ pub fn interfacer3_out(board: &mut Board, room: &mut [Device], port: u8, value: 
 }
 
 // Resets every channel and the board, but for its number.
-#[tactic(auto, using(crate::proofs::Promises::reset_whole), unfolding(board_rules::specs::Runs::answer, board_rules::specs::Runs::said, board_rules::specs::Runs::board_after, board_rules::specs::Runs::room_after, crate::specs::Plans::plan_reset))]
+#[tactic(auto, using(crate::proofs::Eight::room_reset), unfolding(board_rules::specs::Runs::answer, board_rules::specs::Runs::said, board_rules::specs::Runs::board_after, board_rules::specs::Runs::room_after, crate::specs::Plans::plan_reset))]
 pub fn interfacer3_reset(board: &mut Board, room: &mut [Device]) -> u16
     ensures answer { result ≡ answer board.old room.old Reset }
     ensures board { board.new ≡ board_after board.old room.old Reset }
@@ -321,7 +321,7 @@ pub fn interfacer3_reset(board: &mut Board, room: &mut [Device]) -> u16
 }
 
 // Sets the three modem inputs of a channel.
-#[tactic(auto, using(crate::proofs::Promises::pins_small), unfolding(board_rules::specs::Runs::answer, board_rules::specs::Runs::said, board_rules::specs::Runs::board_after, board_rules::specs::Runs::room_after))]
+#[tactic(auto, using(crate::proofs::Eight::pins_fit), unfolding(board_rules::specs::Runs::answer, board_rules::specs::Runs::said, board_rules::specs::Runs::board_after, board_rules::specs::Runs::room_after))]
 pub fn interfacer3_pins(
     board: &mut Board,
     room: &mut [Device],
@@ -358,7 +358,7 @@ pub fn interfacer3_transmit(board: &mut Board, room: &mut [Device], channel: u8)
 }
 
 // A receive tick of a channel with its line at a level.
-#[tactic(auto, using(crate::proofs::Promises::receive_small), unfolding(board_rules::specs::Runs::answer, board_rules::specs::Runs::said, board_rules::specs::Runs::board_after, board_rules::specs::Runs::room_after))]
+#[tactic(auto, using(crate::proofs::Eight::receive_fits), unfolding(board_rules::specs::Runs::answer, board_rules::specs::Runs::said, board_rules::specs::Runs::board_after, board_rules::specs::Runs::room_after))]
 pub fn interfacer3_receive(board: &mut Board, room: &mut [Device], channel: u8, level: u8) -> u16
     ensures answer { result ≡ answer board.old room.old (Receive channel level) }
     ensures board { board.new ≡ board_after board.old room.old (Receive channel level) }

@@ -14,7 +14,7 @@ use Rattle.line_rules.specs.declared.Heard.{Heard}
 use Rattle.line_rules.specs.declared.TxC.{TxC}
 use Rattle.line_rules.specs.declared.RxC.{RxC}
 use Rattle.line_rules.specs.declared.Heard.TheVariants.{Character}
-use Rattle.line_rules.specs.Sending.{bit, on, half, cut, frame_length, stop_sample, level, listed}
+use Rattle.line_rules.specs.Sending.{bit, on, cut, frame_length, stop_sample, level, listed}
 use Rattle.line_rules.specs.Range.{Bounds}
 use Rattle.line_rules.specs.Clocks.{tx_later, rx_later, no_txc}
 use Rattle.line_rules.specs.declared.Sampled.{Sampled}

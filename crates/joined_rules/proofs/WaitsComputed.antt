@@ -21,7 +21,7 @@ use Rattle.ins2651_rules.specs.RegisterWrites.{write_register, write}
 use Rattle.ins2651_rules.specs.Pinning.{pinned, set_pins}
 use Rattle.ins2651_rules.specs.Ticks.{transmit_tick, transmit, receive_tick, receive}
 use Rattle.ins2651_rules.specs.Runs.{Write}
-use Rattle.delivery.specs.Joined.{A, B}
+use Rattle.delivery.specs.Joined.{A}
 use Rattle.joined_rules.specs.declared.Pair.{Pair}
 use Rattle.joined_rules.specs.declared.Unit.{Unit}
 use Rattle.joined_rules.specs.declared.Unit.TheVariants as unit

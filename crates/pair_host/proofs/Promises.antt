@@ -1,11 +1,13 @@
--- That a run and a wait of a pair that stands only count, and that a wait may be spared.
+-- The pair as a struct that is lent, the replies of the acts by value on it, what the lent calls promise, that a run and a wait of a pair that
+-- stands only count, and that a wait may be spared.
 -- Assumes nothing.
 use Prim.Native.Nat.{ℕ, ◌+◌, ◌*◌, ◌%◌, ◌≤◌}
 use native.Mathlib.Omega.{arith}
-use mathlib.Core.Path.{◌≡◌, refl, ap, ap₂, sym, ◌∙◌}
-use mathlib.Core.Bool.{Bool, true, false, cond, not, ◌&&◌, ◌||◌, false≢true}
+use mathlib.Core.Path.{◌≡◌, refl, ap, sym, ◌∙◌}
+use mathlib.Core.Bool.{Bool, true, false, not, ◌&&◌, ◌||◌, false≢true}
 use lib.Dec.{leb, ltb, eqb}
 use borrow.Author.Tests.{leb-true, ltb-true, ltb-false, eqb-true}
+use mir.Syntax.{Width, w16, w32}
 use Rattle.line_rules.proofs.Choice.{not_so}
 use Rattle.line_rules.proofs.Table.{both}
 use Rattle.joined_rules.specs.declared.Pair.{Pair}
@@ -17,8 +19,49 @@ use Rattle.joined_rules.specs.Waiting.{unread, waited, wait}
 use Rattle.joined_rules.proofs.RunsRefused.{run_done}
 use Rattle.joined_rules.proofs.Standing.{stands_counts}
 use Rattle.joined_rules.proofs.Waits.{wait_refused, wait_done, wait_none, wait_there, wait_stands}
+use Rattle.joined_rules.specs.contracts.Pair as D
+use Rattle.joined_rules.proofs.Pair.TheLaws as D'
+use Rattle.lending.proofs.Lendable.{Lendable, Replying}
+use Rattle.lending.proofs.Numbers.{Numbers}
+use Rattle.lending.proofs.Calls.{Promise}
+use Rattle.lending.proofs.Spares.{Spares}
+use Rattle.pair_host.specs.declared.PairReply.{PairReply}
+use Rattle.pair_host.specs.declared.WaitReply.{WaitReply}
 use Rattle.pair_host.specs.Replies.{levels_sent, run_counts, unit_of, wait_answer, wait_counts, wait_spared, wait_told}
 use Rattle.pair_host.specs.Replies as Replies
+use Rattle.pair_host.specs.contracts.PairReply as R
+use Rattle.pair_host.specs.contracts.WaitReply as W
+
+abbrev pub lent_pair : Lendable
+lent_pair = record { type = D.the_type; laws = D'.the_laws; lowers = D'.lowers; plain = D'.the_plain }
+
+-- (the pair lies first in this one: src/lib.rt)
+abbrev pub pair_reply : Replying lent_pair
+pair_reply = record {
+  name = (R.the_type).name;
+  wide = w16;
+  Reply = PairReply;
+  answer = λ r. r.answer;
+  value = λ r. r.pair;
+  told_apart = λ x y e. (R.the_type).to_one x y (ap (λ t. (t.1.0, (t.0, tt))) e);
+}
+
+abbrev pub wait_reply : Replying lent_pair
+wait_reply = record { name = (W.the_type).name; wide = w32; Reply = WaitReply; answer = λ r. r.answer; value = λ r. r.pair; told_apart = (W.the_type).to_one }
+
+-- the width of a count of ticks, and of the number of a unit
+abbrev pub count : Width
+count = w32
+
+abbrev pub ticks : Promise lent_pair 0
+ticks = record { answers = λ p xs. levels_sent (Joining.tick p); leaves = λ p xs. (Joining.tick p).pair }
+
+abbrev pub runs : Promise lent_pair 1
+runs = record { answers = λ p xs. (Joining.run p xs.0).refusal; leaves = λ p xs. (Joining.run p xs.0).pair }
+
+-- a wait, of a unit's number and a limit
+abbrev pub waits : Promise lent_pair 2
+waits = record { answers = λ p xs. wait_answer (wait p (unit_of xs.0) xs.1.0); leaves = λ p xs. (wait p (unit_of xs.0) xs.1.0).pair }
 
 -- a run and a wait of a pair that stands, as the code does them
 pub standing_run : (p : Pair) (n : ℕ) → run_counts p n ≡ true → record { answer = 0; pair = pair_later (n % 65536) p } ≡ Replies.run p n
@@ -64,11 +107,11 @@ module _ (p : Pair) (u limit : ℕ) where
       go false true false a z t h = as_told (done a (wait_none p (unit_of u) limit (eqb-true limit 0 z))) (rw a refl)
       go false false false a z t h = absurd (false≢true h)
 
--- .. so told or waited, it is the wait
-pub told_or_waits : (p : Pair) (u limit : ℕ)
-    → cond (wait_spared p u limit) (record { answer = wait_told p u limit; pair = p }) (Replies.wait p u limit) ≡ Replies.wait p u limit
-told_or_waits p u limit = go (wait_spared p u limit) refl
-  where
-    go : (b : Bool) → wait_spared p u limit ≡ b → cond b (record { answer = wait_told p u limit; pair = p }) (Replies.wait p u limit) ≡ Replies.wait p u limit
-    go true h = let t = spared_wait p u limit h in ap₂ (λ (n : ℕ) (q : Pair). record { answer = n; pair = q }) t.0 t.1
-    go false h = refl
+abbrev pub unmoved : Pair → Numbers 2 → Bool
+unmoved p xs = wait_spared p xs.0 xs.1.0
+
+abbrev pub unmoved_answer : Pair → Numbers 2 → ℕ
+unmoved_answer p xs = wait_told p xs.0 xs.1.0
+
+pub told_or_waits : Spares lent_pair 2 unmoved_answer unmoved waits waits
+told_or_waits = record { still = λ p xs h. spared_wait p xs.0 xs.1.0 h; acts = λ p xs h. (refl, refl) }

@@ -2,9 +2,10 @@
 -- Assumes nothing.
 use mathlib.Core.Path.{◌≡◌, refl, sym, ◌∙◌, ap, ap₂, subst}
 use mathlib.Core.List.{List, [], ◌∷◌, ◌++◌}
-use mathlib.Core.Bool.{Bool, cond}
-use Prim.Native.Nat.{ℕ, suc, ◌+◌, ◌≤◌}
-use borrow.Author.Tests.{le-leb}
+use mathlib.Core.Bool.{Bool, true, false, cond}
+use Prim.Native.Nat.{ℕ, suc, ◌+◌, ◌-◌, ◌≤◌, ◌<◌}
+use lib.Dec.{leb}
+use borrow.Author.Tests.{leb-true, leb-false, le-leb, lt-leb}
 use native.Mathlib.Omega.{arith}
 use native.Mathlib.Nat.{add-zero, add-suc, suc-add}
 use lib.ListN.{length, take, drop, length-append, take-append-drop}
@@ -68,6 +69,18 @@ pub spoke_one : {before text a b : List ℕ} {r s : ℕ} → Spoke before text a
 spoke_one p q = (spoke_at p ∙ sym (spoke_at q), spoke_buffer p ∙ sym (spoke_buffer q))
 
 -- == room for a line ==
+
+-- == room for a line ==
+
+pub room_none : (size at : ℕ) → size < at → leb (at + 32) size ≡ false
+room_none size at h = lt-leb (at + 32) size (omega arith)
+
+pub room_is : (size at : ℕ) → at ≤ size → leb 32 (size - at) ≡ leb (at + 32) size
+room_is size at h = go (leb 32 (size - at)) refl
+  where
+    go : (t : Bool) → leb 32 (size - at) ≡ t → t ≡ leb (at + 32) size
+    go true e = sym (le-leb (at + 32) size (omega (arith, leb-true 32 (size - at) e)))
+    go false e = sym (lt-leb (at + 32) size (omega (arith, leb-false 32 (size - at) e)))
 
 -- a line that has room is written
 pub written : {l m t : List ℕ} {at r : ℕ} → at + 32 ≤ length l → Put l at (where_room l at t) m r → Put l at t m r

@@ -6,7 +6,7 @@ use native.Mathlib.Omega.{arith}
 use mathlib.Core.Path.{◌≡◌, refl, sym, ap, ◌∙◌, subst}
 use mathlib.Core.Bool.{Bool, true, false, cond, not, ◌&&◌, ◌||◌, true≢false}
 use mathlib.Core.List.{List, [], ◌∷◌, ◌++◌, append-nil}
-use borrow.Author.Tests.{lt-ltb, ltb-true, ltb-false}
+use borrow.Author.Tests.{lt-ltb, le-ltb, ltb-true, ltb-false}
 use lib.Dec.{ltb}
 use lib.ListN.{length, take, drop, length-drop, length-append, take-append-drop}
 use lib.Seq.{length-take-le, take_all, take-take, take-add}
@@ -83,6 +83,11 @@ pub not_unread : (s : Session) (bytes : List ℕ) → length bytes ≡ 1 → goe
 not_unread s [] e on = absurd (omega (arith, e))
 not_unread s (b ∷ []) e on = rw on
 not_unread s (b ∷ c ∷ bs) e on = absurd (omega (arith, e))
+
+-- no bytes are the input's end
+pub ended : (s : Session) (bytes : List ℕ) → length bytes ≡ 0 → Answered s bytes (record { session = s; more = false; rest = false; failed = false })
+ended s [] e = record { session = refl; more = refl; rest = refl }
+ended s (b ∷ bs) e = absurd (omega (arith, e))
 
 -- a piece of which all but the last byte is fed, and then, if lines are still taken, that byte
 module _ (s : Session) (piece : List ℕ) (last : ℕ) (h : last + 1 ≡ length piece) {w : Went} (t : TookAll s (take last piece) w) where
@@ -242,6 +247,12 @@ no_more a true e f = absurd (true≢false (sym e ∙ rw f))
 no_more a false e f = refl
 
 -- == the end ==
+
+pub closed_by_newline : (s : Session) → 0 < s.length → closed s ≡ after s (code "\n")
+closed_by_newline s h = rw (lt-ltb 0 s.length h)
+
+pub closed_before : (s : Session) → s.length ≤ 0 → closed s ≡ s
+closed_before s h = rw (le-ltb 0 s.length h)
 
 -- the last that is said ends in the counts, with the number of refused lines that is told
 pub counts_last : (s : Session) → last_said s ≡ cond (ltb 0 s.length) (said s (code "\n")) [] ++ counts_text (closed s).lines (refused_of s)

@@ -1,8 +1,7 @@
 -- What the program reads and writes, where the bytes that its input has left and its output holds are known: std's `remaining` and
 -- `contents`. What a system call moves stays outside: of it they know nothing.
 -- Assumes nothing.
-use Rattle.std.specs.Prelude.{ℕ, ◌≤◌, ◌<◌, ◌≡◌, true, false, List, length}
-use Rattle.std.specs.Prelude.{Option, IfSome}
+use Rattle.std.specs.Prelude.{ℕ, ◌≤◌, ◌<◌, ◌≡◌, true, false, List, length, Option, IfSome}
 use Rattle.std.specs.Io.KnownBytes.{Appends, Consumes, IsAtEnd}
 use Rattle.session_rules.specs.declared.Session.{Session}
 use Rattle.session_rules.specs.Bytes.{goes_on, after_all, said_all}

@@ -43,7 +43,7 @@ fn failed(s: Session) -> Went
     }
 }
 
-// A word that cannot be written is let go: it changes nothing else (`./session` has the words).
+// A word on standard error. One that cannot be written changes nothing.
 fn say(words: &impl Eprint, text: &str) {
     let _ = eprintln!(words; "session: {text}");
 }

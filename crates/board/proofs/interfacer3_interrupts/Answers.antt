@@ -1,6 +1,6 @@
 -- `board::interfacer3_interrupts` meets its contract. The lines are made of the eight statuses.
 use Rattle.std.proofs.Common.{◌∙◌}
-use Rattle.board.proofs.Promises.{lines_eight, lines_whole, polled}
+use Rattle.board.proofs.Eight.{lines_eight, lines_answer, polled}
 use Rattle.board.proofs.interfacer3_interrupts.Goals as goal
 
 pub returns-clause-answer : goal.returns-clause-answer
@@ -12,4 +12,4 @@ returns-clause-answer c =
     let looks = polled _ c.ins2651_peek.new.d c.ins2651_peek-2.new.d c.ins2651_peek-3.new.d c.ins2651_peek-4.new.d c.ins2651_peek-5.new.d c.ins2651_peek-6.new.d c.ins2651_peek-7.new.d ys (lines_eight b ys _ on is)
     c.ins2651_peek.ensures.answer c.ins2651_peek-2.ensures.answer c.ins2651_peek-3.ensures.answer c.ins2651_peek-4.ensures.answer
     c.ins2651_peek-5.ensures.answer c.ins2651_peek-6.ensures.answer c.ins2651_peek-7.ensures.answer c.ins2651_peek-8.ensures.answer in
-    c.interrupt_lines.ensures ∙ lines_whole b ys _ on looks is
+    c.interrupt_lines.ensures ∙ lines_answer b ys _ on looks is
