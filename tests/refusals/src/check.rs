@@ -99,6 +99,10 @@ impl Lane {
             .join(&edit.crate_name)
             .join("out/incremental");
         let _ = fs::remove_dir_all(self.to.join(&kept));
+        if !self.root.join(&kept).is_dir() {
+            let why = "nothing is kept of its crate: tools/kept comes first";
+            return Err(io::Error::new(io::ErrorKind::NotFound, why));
+        }
         copy(&self.root.join(&kept), &self.to.join(&kept), |path| {
             path.extension().is_some_and(|end| end == "oantt")
         })?;

@@ -16,12 +16,19 @@ fn failed(lines: &[String]) -> ExitCode {
     ExitCode::FAILURE
 }
 
-/// As many at once as there are processors, or as REFUSALS_AT_ONCE says.
+/// As many at once as there are processors, and 2 GB for each; or as REFUSALS_AT_ONCE says.
 fn lanes() -> usize {
-    let said = std::env::var("REFUSALS_AT_ONCE")
-        .ok()
-        .and_then(|number| number.parse().ok());
-    let found = || std::thread::available_parallelism().map_or(1, usize::from);
+    let said = std::env::var("REFUSALS_AT_ONCE").ok();
+    let said = said.and_then(|number| number.parse().ok());
+    let found = || {
+        let memory = std::fs::read_to_string("/proc/meminfo").unwrap_or_default();
+        let free = memory
+            .lines()
+            .find_map(|line| line.strip_prefix("MemAvailable:"));
+        let kilobytes = free.and_then(|it| it.trim().split(' ').next()?.parse::<usize>().ok());
+        let processors = std::thread::available_parallelism().map_or(1, usize::from);
+        processors.min(kilobytes.map_or(processors, |it| it / 2_000_000))
+    };
     said.unwrap_or_else(found).max(1)
 }
 
