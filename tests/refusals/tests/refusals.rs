@@ -5,12 +5,16 @@ use refusals::log::{declaration_refused, function, function_refused, refusals, W
 use refusals::project::{faults, table, Edit};
 use std::fs;
 use std::path::PathBuf;
+use std::sync::atomic::{AtomicUsize, Ordering};
 
 const SOURCE: &str = "// a crate\nfn plain(x: u8) -> u8\n    ensures { result ≡ x }\n{\n    x + 1\n}\n\npub fn proved(x: u8) -> u8\n    ensures { result ≡ x }\n{\n    plain(x)\n}\n";
 
-/// An edited crate.
+/// An edited crate, in a folder of its own.
 fn room(name: &str) -> PathBuf {
-    let room = std::env::temp_dir().join(format!("refusals-{}-{name}", std::process::id()));
+    static ROOMS: AtomicUsize = AtomicUsize::new(0);
+    let number = ROOMS.fetch_add(1, Ordering::Relaxed);
+    let name = format!("refusals-{}-{number}-{name}", std::process::id());
+    let room = std::env::temp_dir().join(name);
     fs::create_dir_all(room.join("src")).unwrap();
     fs::create_dir_all(room.join("proofs/proved")).unwrap();
     fs::write(room.join("src/lib.rt"), SOURCE).unwrap();
