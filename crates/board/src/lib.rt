@@ -102,7 +102,7 @@ fn plan_out(b: Board, channels: usize, port: u8, value: u8) -> Plan
     plan
 }
 
-// The plans of calls that name a channel take every byte of their call, so that one walk serves them.
+// The plans of calls that name a channel take every byte of their call: one theorem speaks of all of them (`proofs/Shapes.antt`).
 fn plan_named(b: Board, channels: usize, channel: u8) -> Plan
     ensures { result ≡ Plans.plan_named b channels channel }
 {
@@ -158,7 +158,7 @@ fn raised(answer: u16) -> u32
     answer as u32 * 256
 }
 
-// == what is made of eight channels' answers. Each takes the board and every byte of its call, so that one walk serves them ==
+// == what is made of eight channels' answers. Each takes the board and every byte of its call: one theorem speaks of both (`proofs/Shapes.antt`) ==
 
 // The lowest bits of four numbers.
 fn nibble(a: u16, b: u16, c: u16, d: u16) -> u16

@@ -1,10 +1,15 @@
+pub mod Fits
 pub mod Channels
 pub mod OfTheChip
+pub mod ByTests
+pub mod ByRows
 pub mod Refused
 pub mod Alone
 pub mod Computed
 pub mod OfTheBoard
 pub mod ByChannel
 pub mod TakenApart
+pub mod Sides
+pub mod Within
 pub mod Lines
 pub mod TwoUsers

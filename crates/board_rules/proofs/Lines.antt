@@ -7,10 +7,10 @@ use mathlib.Core.Bool.{Bool, true, false, cond, ◌&&◌, ◌||◌, true≢false
 use mathlib.Core.List.{List, [], ◌∷◌, ◌++◌, map, append_assoc}
 use lib.Dec.{eqb, ltb}
 use lib.ListN.{length}
-use borrow.Author.Tests.{eqb-true, eqb-false, eq-eqb, ne_eqb, le-ltb}
+use borrow.Author.Tests.{eqb-false, le-ltb}
 use Rattle.line_rules.specs.declared.Format.{Format}
 use Rattle.line_rules.specs.Sending.{frame_length}
-use Rattle.line_rules.proofs.Choice.{all, either, each}
+use Rattle.line_rules.proofs.Choice.{either, each}
 use Rattle.line_rules.proofs.Table.{both}
 use Rattle.ins2651_rules.specs.declared.Device.{Device}
 use Rattle.ins2651_rules.specs.Modes.{send_format}
@@ -39,6 +39,8 @@ use Rattle.board_rules.specs.About.{about}
 use Rattle.board_rules.specs.Lines.{Boards, Which, One, Two, same, cabinet, called, told, deed_of, Spot, Spots, spot_at, is_at, device_of, pair_of, Joined, Aside, all_called, Between, Place, First, Second, Third, asides_at, reset_of, Step, Tick, On, sends, sent, hears, one_sent, both_sent, one_heard, ticked, moved, all_moved, reaches_spot, made_at, call_steps, none, aside_steps, aloof, one_by_one, steps_of, steps_at, begun, fresh}
 use Rattle.board_rules.proofs.Channels.{channel_after, room_stays, unreached, one_shown, read_reaches, write_reaches}
 use Rattle.board_rules.proofs.Alone.{about_one}
+use Rattle.board_rules.proofs.Sides.{same_itself, side_steps}
+use Rattle.board_rules.proofs.Within.{second_hears}
 
 -- == the boards after a call ==
 
@@ -83,42 +85,7 @@ call_as_pair l w k c =
 
 -- == a call at one of the two channels ==
 
-same_itself : (k : Which) → same k k ≡ true
-same_itself One = refl
-same_itself Two = refl
-
-same_back : (j k : Which) → same j k ≡ same k j
-same_back One One = refl
-same_back One Two = refl
-same_back Two One = refl
-same_back Two Two = refl
-
-eqb_back : (m n : ℕ) → eqb m n ≡ eqb n m
-eqb_back m n = go (eqb m n) refl
-  where
-    go : (b : Bool) → eqb m n ≡ b → eqb m n ≡ eqb n m
-    go true e = e ∙ sym (eq-eqb n m (sym (eqb-true m n e)))
-    go false e = e ∙ sym (ne_eqb n m (λ z. eqb-false m n e (sym z)))
-
--- each is at its own spot, and not at the other's
-own_spot : (p : Spot) → is_at p.which p.channel p ≡ true
-own_spot p = all (same_itself p.which) (eq-eqb p.channel p.channel refl)
-
-made_at_lem : (p : Spot) (k : Which) (n : ℕ) (c : chip.Call) → made_at p k (At n c) ≡ cond (is_at k n p) (c ∷ []) []
-made_at_lem p k n c = go (same k p.which)
-  where
-    go : (b : Bool) → cond b (calls_by p.channel (At n c)) [] ≡ cond (b && eqb n p.channel) (c ∷ []) []
-    go true = refl
-    go false = refl
-
 module _ (l : Spots) (w : Boards) (j : Joined l w) where
-  side_steps : (s : Side) (c : chip.Call) → call_steps l (spot_at s l).which (At (spot_at s l).channel c) ≡ bench.At s c ∷ []
-  side_steps A c = rw (made_at_lem l.a l.a.which l.a.channel c, made_at_lem l.b l.a.which l.a.channel c, own_spot l.a, j.apart)
-  side_steps B c =
-      let z : is_at l.b.which l.b.channel l.a ≡ false =
-      ap₂ ◌&&◌ (same_back l.b.which l.a.which) (eqb_back l.b.channel l.a.channel) ∙ j.apart in
-      rw (made_at_lem l.a l.b.which l.b.channel c, made_at_lem l.b l.b.which l.b.channel c, own_spot l.b, z)
-
   -- a call that names its channel is not refused by the board
   side_named : (s : Side) (c : chip.Call) → named (cabinet (spot_at s l).which w).room (spot_at s l).channel c ≡ At (spot_at s l).channel c
   side_named s c =
@@ -129,7 +96,7 @@ module _ (l : Spots) (w : Boards) (j : Joined l w) where
       → pair_of l (called (spot_at s l).which c w) ≡ bench.moved (pair_of l w) (bench.At s d)
   side_called s c d e =
       call_as_pair l w (spot_at s l).which c ∙ ap (λ (k : Deed). bench.all_moved (pair_of l w) (call_steps l (spot_at s l).which k)) e
-      ∙ ap (bench.all_moved (pair_of l w)) (side_steps s d)
+      ∙ ap (bench.all_moved (pair_of l w)) (side_steps l w j s d)
 
   side_sends : (s : Side) → pair_of l (sends l s w) ≡ bench.moved (pair_of l w) (bench.At s chip.Transmit)
   side_sends s = side_called s (Transmit (spot_at s l).channel) chip.Transmit (side_named s chip.Transmit)
@@ -166,10 +133,10 @@ module _ (l : Spots) (w : Boards) (j : Joined l w) where
     out_deed v = write_reaches b room (j.rooms s) on port low v ∙ ap (λ (k : ℕ). At k (chip.Write port v)) here
 
     pub selected_reads : steps_of l w (On (spot_at s l).which (In port)) ≡ bench.At s (chip.Read port) ∷ []
-    selected_reads = ap (call_steps l (spot_at s l).which) in_deed ∙ side_steps s (chip.Read port)
+    selected_reads = ap (call_steps l (spot_at s l).which) in_deed ∙ side_steps l w j s (chip.Read port)
 
     pub selected_writes : (v : ℕ) → steps_of l w (On (spot_at s l).which (Out port v)) ≡ bench.At s (chip.Write port v) ∷ []
-    selected_writes v = ap (call_steps l (spot_at s l).which) (out_deed v) ∙ side_steps s (chip.Write port v)
+    selected_writes v = ap (call_steps l (spot_at s l).which) (out_deed v) ∙ side_steps l w j s (chip.Write port v)
 
     pub selected_told : told (spot_at s l).which (In port) w ≡ (read (bench.device_at s (pair_of l w)) port).value
     selected_told = side_told s (In port) (chip.Read port) in_deed ∙ one_shown (read (bench.device_at s (pair_of l w)) port).value
@@ -205,7 +172,7 @@ module _ (l : Spots) (m : Between) (w : Boards) (j : Joined l w) where
   three = one_heard l m w
 
   abbrev x : ℕ
-  x = sent l A w
+  x = second_hears l m w
 
   abbrev y : ℕ
   y = sent l B one
@@ -393,10 +360,6 @@ module _ (l : Spots) (w : Boards) where
 pub aside_none : (l : Spots) (x : Aside) (xs : List Aside) (w : Boards) → steps_of l w (On x.which x.call) ≡ [] → aside_steps l xs (called x.which x.call w) ≡ []
     → aside_steps l (x ∷ xs) w ≡ []
 aside_none l x xs w p q = rw (p, q)
-
-pub still_a_tick : (l : Spots) (m : Between) (w : Boards) → aside_steps l m.first (sends l A w) ≡ [] → aside_steps l m.second (sends l B (one_sent l m w)) ≡ []
-    → aside_steps l m.third (hears l A (sent l B (one_sent l m w)) (both_sent l m w)) ≡ [] → steps_of l w (Tick m) ≡ bench.Tick ∷ []
-still_a_tick l m w p q r = rw (p, q, r)
 
 -- == a board reset may not ==
 

@@ -1,4 +1,4 @@
--- A lent call over any by-value call meets its contract (`meets`, which the proof of each cites): `walk` is what stands around `lends`, from entry to return.
+-- A lent call over any by-value call meets its contract (`meets`): `walk` is what stands around `lends`, from entry to return.
 -- Assumes nothing.
 use mathlib.Core.Path.{◌≡◌, refl, ap, sym, subst, ◌∙◌}
 use Prim.Native.Nat.{ℕ, suc, ◌<◌, ◌^◌}

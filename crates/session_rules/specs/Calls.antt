@@ -57,7 +57,7 @@ answered p unit o = replied p unit o.device (verdict o.refusal Nothing)
 abbrev pub shown : Device → ℕ → ℕ → Said
 shown d unit address = cond (eqb address 0) (Held unit (read d address).value (stamp d)) (Value unit address (read d address).value)
 
--- the same by what the read answers: it leaves the stamp (proofs/Lines.antt, `shown_by`)
+-- the same by what the read answers: it leaves the stamp (proofs/Lines.antt, `shown_by_lem`)
 abbrev pub shown_by : ℕ → ℕ → Answer → Said
 shown_by unit address a = cond (eqb address 0) (Held unit a.value a.device.receiver.stamp) (Value unit address a.value)
 
