@@ -8,5 +8,5 @@ pub mod Sums
 pub mod Turns
 pub mod Raises
 pub mod Shapes
-pub mod Eight
 pub mod Promises
+pub mod Eight

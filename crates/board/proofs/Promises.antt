@@ -1,7 +1,7 @@
 -- What the calls of the board promise, and that it is what their plans, the chip's calls and the summaries come to.
 -- Assumes nothing.
 use mathlib.Core.Path.{◌≡◌, refl, ap, ap₂, sym, subst, ◌∙◌}
-use Prim.Native.Nat.{ℕ, suc, ◌<◌, ◌≤◌, ◌+◌, ◌*◌, ◌/◌, ◌%◌}
+use Prim.Native.Nat.{ℕ, zero, suc, ◌<◌, ◌≤◌, ◌+◌, ◌*◌, ◌/◌, ◌%◌}
 use mathlib.Core.Bool.{Bool, true, false, cond, not, ◌&&◌, ◌||◌, true≢false}
 use mathlib.Core.List.{[], ◌∷◌, List}
 use native.Mathlib.Omega.{arith}
@@ -11,6 +11,7 @@ use borrow.Author.Tests.{eqb-true, eqb-false, ltb-true, ltb-false, eq-eqb, ne_eq
 use Rattle.line_rules.proofs.Choice.{neither}
 use Rattle.ins2651_rules.specs.declared.Device.{Device}
 use Rattle.ins2651_rules.specs.Shape.{reset_device}
+use Rattle.ins2651_rules.specs.Modes.{has}
 use Rattle.ins2651_rules.specs.Status.{weigh}
 use Rattle.ins2651_rules.specs.Looks.{peek, outputs}
 use Rattle.ins2651_rules.specs.RegisterReads.{read}
@@ -21,7 +22,6 @@ use Rattle.board_rules.specs.Interrupts.{by_channel, sends_next, holds_one, tran
 use Rattle.board_rules.specs.Ports.{Call, In, Out, Reset, Pins, Transmit, Receive, Outputs, Interrupts, channel_of, refusal, in_refusal, out_refusal, named_refusal, room_refusal, with_transmit_mask, with_receive_mask, with_select, reset_board, Deed, Refused, Shows, Sets, At, ResetsAll, reading, writing, named, deed}
 use Rattle.board_rules.specs.Runs.{device_at, board_by, room_by, said_by, weight, word, board_after, room_after, said, answer}
 use Rattle.board.specs.declared.Plan.{Plan}
-use Rattle.board.proofs.Eight.{of_eight, shown_bit, low_bits_so}
 use Rattle.board.specs.Plans.{plan_at, plan_in, plan_taken, plan_out, plan_named, plan_interrupts, plan_reset, written, low_bits, interrupt_status, enabled, interrupt_lines}
 use Rattle.host.proofs.Calls.{Bytes, past}
 use Rattle.host.proofs.Calls as host
@@ -59,11 +59,11 @@ taken : (r : ℕ) (e : Deed) {x : Deed} → x ≡ cond (eqb r 0) e (Refused r) �
 taken r e is z = is ∙ ap (λ (t : Bool). cond t e (Refused r)) z
 
 -- nothing is refused: the room has eight channels, and what is asked for is there
-record Admitted (channels : ℕ) (absent : Bool) : Type 0 where
+pub record Admitted (channels : ℕ) (absent : Bool) : Type 0 where
   pub eight : channels ≡ 8
   pub there : absent ≡ false
 
-admitted : (channels : ℕ) (absent elsewhere : Bool) → eqb (refusal channels absent elsewhere) 0 ≡ true → Admitted channels absent
+pub admitted : (channels : ℕ) (absent elsewhere : Bool) → eqb (refusal channels absent elsewhere) 0 ≡ true → Admitted channels absent
 admitted channels absent elsewhere h = go (eqb channels 8) absent elsewhere refl h
   where
     go : (t a z : Bool) → eqb channels 8 ≡ t → eqb (cond t (cond a 8 (cond z 9 0)) 10) 0 ≡ true → Admitted channels a
@@ -270,12 +270,40 @@ out_small d xs = small_refusal d (chip.Write xs.0 xs.1.0)
 
 -- == eight channels ==
 
+pub of_eight : (P : List Device → Type 0) → ((a b c d e f g h : Device) → P (a ∷ b ∷ c ∷ d ∷ e ∷ f ∷ g ∷ h ∷ [])) → (ys : List Device) → length ys ≡ 8 → P ys
+of_eight P k [] n = absurd (omega (arith, n))
+of_eight P k (a ∷ []) n = absurd (omega (arith, n))
+of_eight P k (a ∷ b ∷ []) n = absurd (omega (arith, n))
+of_eight P k (a ∷ b ∷ c ∷ []) n = absurd (omega (arith, n))
+of_eight P k (a ∷ b ∷ c ∷ d ∷ []) n = absurd (omega (arith, n))
+of_eight P k (a ∷ b ∷ c ∷ d ∷ e ∷ []) n = absurd (omega (arith, n))
+of_eight P k (a ∷ b ∷ c ∷ d ∷ e ∷ f ∷ []) n = absurd (omega (arith, n))
+of_eight P k (a ∷ b ∷ c ∷ d ∷ e ∷ f ∷ g ∷ []) n = absurd (omega (arith, n))
+of_eight P k (a ∷ b ∷ c ∷ d ∷ e ∷ f ∷ g ∷ h ∷ []) n = k a b c d e f g h
+of_eight P k (a ∷ b ∷ c ∷ d ∷ e ∷ f ∷ g ∷ h ∷ i ∷ ys) n = absurd (omega (arith, n))
+
 -- looked at, they stay; reset, they are eight just reset
 peeked_stay : (ys : List Device) → length ys ≡ 8 → ys ≡ swept peeks 8 0 ys
 peeked_stay = of_eight (λ ys. ys ≡ swept peeks 8 0 ys) (λ a b c d e f g h. refl)
 
-all_resets : (ys : List Device) → length ys ≡ 8 → swept resets 8 0 ys ≡ replicate 8 reset_device
+pub all_resets : (ys : List Device) → length ys ≡ 8 → swept resets 8 0 ys ≡ replicate 8 reset_device
 all_resets = of_eight (λ ys. swept resets 8 0 ys ≡ replicate 8 reset_device) (λ a b c d e f g h. refl)
+
+-- the bit of weight m of a status, as it is shown
+shown_bit : (m v : ℕ) → v / m % 2 ≡ weigh (has m v) 1
+shown_bit m v = go (v / m % 2) refl (below_two (v / m))
+  where
+    below_two : (x : ℕ) → x % 2 < 2
+    below_two x = omega arith
+
+    go : (r : ℕ) → v / m % 2 ≡ r → r < 2 → r ≡ weigh (has m v) 1
+    go zero e l = rw e refl
+    go (suc zero) e l = rw e refl
+    go (suc (suc r)) e l = absurd (omega (arith, l))
+
+low_bits_so : (a b c d e f g h : ℕ) → low_bits a b c d e f g h ≡ a % 2 + 2 * (b % 2 + 2 * (c % 2 + 2 * (d % 2 + 2 * (e % 2 + 2 * (f % 2 + 2 * (g % 2 + 2 * (h % 2 + 2 * 0)))))))
+unfolding low_bits
+low_bits_so a b c d e f g h = omega arith
 
 -- of eight statuses, what `bit` makes of each
 abbrev bits_of : (ℕ → ℕ) → Bytes 8 → ℕ
@@ -296,7 +324,7 @@ by_status p bit same =
     step d e = ap₂ (λ (i j : ℕ). i + 2 * j) (same d) e
 
 -- port 4 and port 5
-abbrev status_of : Bytes 8 → ℕ → ℕ
+abbrev pub status_of : Bytes 8 → ℕ → ℕ
 status_of v port = interrupt_status v.0 v.1.0 v.1.1.0 v.1.1.1.0 v.1.1.1.1.0 v.1.1.1.1.1.0 v.1.1.1.1.1.1.0 v.1.1.1.1.1.1.1.0 port
 
 status_4 : (ys : List Device) → length ys ≡ 8 → status_of (told peeks 8 0 ys) 4 ≡ transmit_status ys
@@ -322,7 +350,7 @@ pub in_stops : Stops 1 in_plan (does 1 in_call)
 in_stops b ys xs ends = by_refusal 1 in_call b ys xs (in_refusal b (length ys) xs.0) (reading b ys xs.0) refl (not-true _ ends)
 
 module _ (b : Board) (ys : List Device) (port : ℕ) (on : not (eqb (in_refusal b (length ys) port) 0) ≡ false) where
-  in_room_lem : Admitted (length ys) (ltb 5 port)
+  pub in_room_lem : Admitted (length ys) (ltb 5 port)
   in_room_lem = admitted (length ys) (ltb 5 port) (not (eqb (b.select / 8 % 4) b.number)) (not-false _ on)
 
   in_deed : deed b ys (In port) ≡ reading b ys port
