@@ -31,7 +31,7 @@ pub struct Reply {
     pub device: Device,
 }
 
-// == the acts by value, on a device in range: each takes the device and all bytes of its call: `lending` has one theorem for all such code ==
+// == the acts by value, on a device in range. Each takes the device and all bytes of its call: `lending` has one theorem for all such code ==
 
 // What is done and has no value answers 0.
 fn done(d: Device) -> Reply

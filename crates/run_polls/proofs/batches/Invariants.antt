@@ -1,3 +1,4 @@
+-- The loop of `run_polls::batches`: no more bytes are read than there is space for.
 use Rattle.std.proofs.Common.{◌-◌, ◌≤◌}
 use Rattle.run_polls.proofs.batches.Given as goal
 

@@ -1,3 +1,4 @@
+-- The loop of `run_session::feed_all`: what the calls so far have taken of the piece.
 use Rattle.std.proofs.Common.{length, ◌-◌, ◌≡◌, ◌≤◌, take}
 use Rattle.std.specs.Io.KnownBytes.{Appends}
 use Rattle.session_rules.specs.Bytes.{after_all, said_all}

@@ -1,3 +1,4 @@
+-- The loop of `run_session::whole`: what the reads so far brought.
 use Rattle.std.proofs.Common.{◌≡◌, false}
 use Rattle.run_session.specs.Goes.{Fed}
 use Rattle.run_session.specs.Passing.{Passed}
