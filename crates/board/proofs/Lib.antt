@@ -1,12 +1,2 @@
-pub mod Calls
-pub mod Entry
-pub mod Hands
-pub mod Slots
-pub mod Sweep
-pub mod Begins
-pub mod Sums
-pub mod Turns
-pub mod Raises
-pub mod Shapes
-pub mod Promises
-pub mod Eight
+pub mod Bits
+pub mod Fits

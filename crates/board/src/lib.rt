@@ -1,255 +1,183 @@
-// The eight-channel board lent to a C host, with the room of its channels: a call decides by value what it comes to, stores the board, and
-// lends the channel that it is about to the chip's own call, where it stands. include/interfacer3.h is C's view.
+// The eight-channel board lent to a C host, with the room of its channels: a call is refused, or it lends the channel that it is about to the
+// chip's own call, where it stands. include/interfacer3.h is C's view.
 // Whatever bytes the host lends, and however many channels, the call is what `board_rules` says of them.
 #![tactic(auto)]
 
-ghost use Rattle.std.specs.Prelude.{◌≡◌, ◌≤◌, ◌*◌};
+ghost use Rattle.std.specs.Prelude.{◌≡◌, length};
+ghost use Rattle.board_rules.specs.Interrupts.{transmit_status, receive_status};
 ghost use Rattle.board_rules.specs.Ports;
 ghost use Rattle.board_rules.specs.Ports.{In, Out, Reset, Pins, Transmit, Receive, Outputs, Interrupts};
 ghost use Rattle.board_rules.specs.Runs.{answer, board_after, room_after};
-ghost use Rattle.board.specs.Plans;
+ghost use Rattle.board.specs.Answers;
+ghost use Rattle.board.specs.Answers.{OnChannel};
 
 use board_rules::Board;
 use ins2651_rules::Device;
 
-// What a call comes to before a channel is looked at: the board after it, and its answer where it ends there; else the channel that it is
-// about, where it is about one alone.
-#[repr(C)]
-#[derive(Clone, Copy)]
-pub struct Plan {
-    pub answer: u16,
-    pub channel: usize,
-    pub board: Board,
-    pub ends: bool,
-    pub single: bool,
+// == refusals ==
+
+// Why the board refuses a call: the room has other than eight channels, the port or the channel is not there, or another board is selected.
+#[derive(Clone, Copy, Debug, PartialEq, Eq)]
+enum Refusal {
+    Channels,
+    Absent,
+    Elsewhere,
 }
 
-// == the plans ==
+impl From<Refusal> for u16 {
+    ghost from_gives = { λ refusal n. n ≡ Answers.number refusal };
 
-// 10, 8 and 9 in their order; 0 is done.
-fn refusal(channels: usize, absent: bool, elsewhere: bool) -> u16
-    ensures { (result ≡ Ports.refusal channels absent elsewhere) × (result ≤ 10) }
+    fn from(refusal: Refusal) -> u16 {
+        match refusal {
+            Refusal::Channels => 10,
+            Refusal::Absent => 8,
+            Refusal::Elsewhere => 9,
+        }
+    }
+}
+
+// In the order in which they are asked for.
+fn check(channels: usize, absent: bool, elsewhere: bool) -> Result<(), Refusal>
+    ensures { Answers.refusal_of result ≡ Ports.refusal channels absent elsewhere }
 {
     if channels != 8 {
-        return 10;
+        return Err(Refusal::Channels);
     }
     if absent {
-        return 8;
+        return Err(Refusal::Absent);
     }
     if elsewhere {
-        return 9;
+        return Err(Refusal::Elsewhere);
     }
-    0
+    Ok(())
 }
 
-fn selected(b: Board) -> bool
-    ensures { result ≡ Ports.selected b }
+// What C is told: 256 times the refusal, or the answer.
+fn answered(said: Result<u16, Refusal>) -> u16
+    ensures { result ≡ Answers.answered said }
 {
-    b.select / 8 % 4 == b.number
+    said.unwrap_or_else(|refusal| u16::from(refusal) * 256)
 }
 
-// A call that is refused, or that is about one channel.
-fn plan_at(b: Board, channels: usize, absent: bool, elsewhere: bool, channel: u8) -> Plan
-    ensures { result ≡ Plans.plan_at b (Ports.refusal channels absent elsewhere) channel }
+// == the select ==
+
+fn selected(board: &Board) -> bool
+    ensures { result ≡ Ports.selected board.now }
 {
-    let refused = refusal(channels, absent, elsewhere);
-    Plan {
-        answer: refused * 256,
-        channel: channel as usize,
-        board: b,
-        ends: refused != 0,
-        single: true,
+    board.select / 8 % 4 == board.number
+}
+
+fn channel_of(board: &Board) -> usize
+    ensures { result ≡ Ports.channel_of board.now }
+{
+    usize::from(board.select % 8)
+}
+
+// == the interrupt status ==
+
+// A 1 for each channel that awaits a character to send, and for each that holds one; channel 0's is the lowest bit.
+#[derive(Clone, Copy, Default)]
+struct Status {
+    transmit: u16,
+    receive: u16,
+}
+
+fn poll(room: &mut [Device]) -> Status
+    requires { length room.old ≡ 8 }
+    ensures transmit { result.transmit ≡ transmit_status room.old }
+    ensures receive { result.receive ≡ receive_status room.old }
+    ensures room { room.new ≡ room.old }
+{
+    let mut status = Status::default();
+    let mut weight = 1; // it doubles from channel to channel, and is no index
+    for device in room.iter_mut() {
+        let shown = host::ins2651_peek(device);
+        status.transmit += shown % 2 * weight;
+        status.receive += shown / 2 % 2 * weight;
+        weight *= 2;
     }
+    status
 }
 
-fn plan_in(b: Board, channels: usize, port: u8) -> Plan
-    ensures { result ≡ Plans.plan_in b channels port }
+// == the calls. Board and room stay two parameters: C lends them apart, and a struct of both would be made anew in each call ==
+
+// Ports 0 to 3 are the selected channel's.
+#[tactic(auto, unfolding(board_rules::specs::Runs::answer, board_rules::specs::Runs::said, board_rules::specs::Runs::board_after, board_rules::specs::Runs::room_after))]
+fn read_port(board: &Board, room: &mut [Device], port: u8) -> Result<u16, Refusal>
+    ensures answer { Answers.answered result ≡ answer board.now room.old (In port) }
+    ensures room { room.new ≡ room_after board.now room.old (In port) }
 {
-    let mut plan = plan_at(b, channels, port > 5, !selected(b), b.select % 8);
-    plan.single = port < 4;
-    plan
+    check(room.len(), port > 5, !selected(board))?;
+    Ok(match port {
+        4 => poll(room).transmit,
+        5 => poll(room).receive,
+        _ => host::ins2651_read(&mut room[channel_of(board)], port),
+    })
 }
 
-// A write that is taken: ports 4, 5 and 7 are the board's own, and end there.
-fn plan_write(b: Board, port: u8, value: u8) -> Board
-    ensures { result ≡ Plans.written b port value }
+// Every board takes a write to port 7, whatever is selected.
+#[tactic(auto, using(crate::proofs::Fits::write_fits), unfolding(board_rules::specs::Runs::answer, board_rules::specs::Runs::said, board_rules::specs::Runs::board_after, board_rules::specs::Runs::room_after))]
+fn write_port(board: &mut Board, room: &mut [Device], port: u8, value: u8) -> Result<u16, Refusal>
+    ensures answer { Answers.answered result ≡ answer board.old room.old (Out port value) }
+    ensures board { board.new ≡ board_after board.old room.old (Out port value) }
+    ensures room { room.new ≡ room_after board.old room.old (Out port value) }
 {
-    let mut after = b;
-    if port == 4 {
-        after.transmit_mask = value;
+    check(
+        room.len(),
+        port == 6 || port > 7,
+        port < 6 && !selected(board),
+    )?;
+    match port {
+        4 => board.transmit_mask = value,
+        5 => board.receive_mask = value,
+        7 => board.select = value % 32,
+        _ => return Ok(host::ins2651_write(&mut room[channel_of(board)], port, value) * 256),
     }
-    if port == 5 {
-        after.receive_mask = value;
-    }
-    if port == 7 {
-        after.select = value % 32;
-    }
-    after
-}
-
-#[tactic(auto, unfolding(crate::specs::Plans::plan_out))]
-fn plan_out(b: Board, channels: usize, port: u8, value: u8) -> Plan
-    ensures { result ≡ Plans.plan_out b channels port value }
-{
-    let absent = (port == 6) | (port > 7);
-    let elsewhere = (port < 6) & !selected(b);
-    let mut plan = plan_at(b, channels, absent, elsewhere, b.select % 8);
-    if plan.ends {
-        return plan;
-    }
-    plan.board = plan_write(b, port, value);
-    plan.ends = port > 3;
-    plan
-}
-
-// The plans of calls that name a channel take every byte of their call: one theorem speaks of all of them (`proofs/Shapes.antt`).
-fn plan_named(b: Board, channels: usize, channel: u8) -> Plan
-    ensures { result ≡ Plans.plan_named b channels channel }
-{
-    plan_at(b, channels, channel > 7, false, channel)
-}
-
-fn plan_receive(b: Board, channels: usize, channel: u8, level: u8) -> Plan
-    ensures { result ≡ Plans.plan_named b channels channel }
-{
-    plan_named(b, channels, channel)
-}
-
-fn plan_pins(b: Board, channels: usize, channel: u8, dsr: u8, dcd: u8, cts: u8) -> Plan
-    ensures { result ≡ Plans.plan_named b channels channel }
-{
-    plan_named(b, channels, channel)
-}
-
-fn plan_interrupts(b: Board, channels: usize) -> Plan
-    ensures { result ≡ Plans.plan_interrupts b channels }
-{
-    plan_at(b, channels, false, false, 0)
+    Ok(0)
 }
 
 // The number stays, and every interrupt is inhibited.
-fn reset_board(b: Board) -> Board
-    ensures { result ≡ Ports.reset_board b }
+#[tactic(auto, unfolding(board_rules::specs::Runs::answer, board_rules::specs::Runs::said, board_rules::specs::Runs::board_after, board_rules::specs::Runs::room_after))]
+fn reset_all(board: &mut Board, room: &mut [Device]) -> Result<u16, Refusal>
+    ensures answer { Answers.answered result ≡ answer board.old room.old Reset }
+    ensures board { board.new ≡ board_after board.old room.old Reset }
+    ensures room { room.new ≡ room_after board.old room.old Reset }
 {
-    Board {
-        number: b.number,
-        select: 0,
-        transmit_mask: 0,
-        receive_mask: 0,
-    }
+    check(room.len(), false, false)?;
+    room.fill(ins2651::reset());
+    board.select = 0;
+    board.transmit_mask = 0;
+    board.receive_mask = 0;
+    Ok(0)
 }
 
-#[tactic(auto, unfolding(crate::specs::Plans::plan_reset))]
-fn plan_reset(b: Board, channels: usize) -> Plan
-    ensures { result ≡ Plans.plan_reset b channels }
+// A call of the chip on the channel of that number, whatever is selected.
+fn on_channel<F: FnOnce(&mut Device) -> u16>(
+    room: &mut [Device],
+    channel: u8,
+    call: F,
+) -> Result<u16, Refusal>
+    requires { F.IsAlwaysCallable call }
+    ensures { OnChannel F.FnOnce call room.old channel result room.new }
 {
-    let mut plan = plan_interrupts(b, channels);
-    if plan.ends {
-        return plan;
-    }
-    plan.board = reset_board(b);
-    plan
+    check(room.len(), channel > 7, false)?;
+    Ok(call(&mut room[usize::from(channel)]))
 }
 
-// An answer of 16 bits as one of 32: the refusal moves up by a byte.
-fn raised(answer: u16) -> u32
-    ensures { result ≡ answer * 256 }
+// Both bytes of the interrupt lines, whatever is selected.
+#[tactic(auto, unfolding(board_rules::specs::Runs::answer, board_rules::specs::Runs::said, board_rules::specs::Runs::board_after, board_rules::specs::Runs::room_after))]
+fn read_lines(board: &Board, room: &mut [Device]) -> Result<u32, Refusal>
+    ensures answer { Answers.answered_wide result ≡ answer board.now room.old Interrupts }
+    ensures room { room.new ≡ room_after board.now room.old Interrupts }
 {
-    answer as u32 * 256
+    check(room.len(), false, false)?;
+    let status = poll(room);
+    let transmit = status.transmit & u16::from(board.transmit_mask);
+    let receive = status.receive & u16::from(board.receive_mask);
+    Ok(u32::from(transmit) + u32::from(receive) * 256)
 }
 
-// == what is made of eight channels' answers. Each takes the board and every byte of its call: one theorem speaks of both (`proofs/Shapes.antt`) ==
-
-// The lowest bits of four numbers.
-fn nibble(a: u16, b: u16, c: u16, d: u16) -> u16
-    ensures { (result ≡ Plans.nibble a b c d) × (result ≤ 15) }
-{
-    a % 2 + b % 2 * 2 + (c % 2 * 4 + d % 2 * 8)
-}
-
-// The lowest bits of eight numbers, the first one's lowest.
-#[tactic(auto, unfolding(crate::specs::Plans::low_bits))]
-fn low_bits(a: u16, b: u16, c: u16, d: u16, e: u16, f: u16, g: u16, h: u16) -> u16
-    ensures { (result ≡ Plans.low_bits a b c d e f g h) × (result ≤ 255) }
-{
-    nibble(a, b, c, d) + nibble(e, f, g, h) * 16
-}
-
-// Port 4 or 5 from the status of each channel.
-#[tactic(auto, unfolding(crate::specs::Plans::interrupt_status))]
-fn interrupt_status(
-    b: Board,
-    s0: u16,
-    s1: u16,
-    s2: u16,
-    s3: u16,
-    s4: u16,
-    s5: u16,
-    s6: u16,
-    s7: u16,
-    port: u8,
-) -> u16
-    ensures { result ≡ Plans.interrupt_status s0 s1 s2 s3 s4 s5 s6 s7 port }
-{
-    if port == 4 {
-        return low_bits(s0, s1, s2, s3, s4, s5, s6, s7);
-    }
-    low_bits(
-        s0 / 2,
-        s1 / 2,
-        s2 / 2,
-        s3 / 2,
-        s4 / 2,
-        s5 / 2,
-        s6 / 2,
-        s7 / 2,
-    )
-}
-
-// Both bytes of the interrupt lines.
-#[tactic(auto, unfolding(crate::specs::Plans::interrupt_lines))]
-fn interrupt_lines(
-    b: Board,
-    s0: u16,
-    s1: u16,
-    s2: u16,
-    s3: u16,
-    s4: u16,
-    s5: u16,
-    s6: u16,
-    s7: u16,
-) -> u32
-    ensures { result ≡ Plans.interrupt_lines b s0 s1 s2 s3 s4 s5 s6 s7 }
-{
-    let transmit = interrupt_status(b, s0, s1, s2, s3, s4, s5, s6, s7, 4);
-    let receive = interrupt_status(b, s0, s1, s2, s3, s4, s5, s6, s7, 5);
-    enabled(transmit, b.transmit_mask) + enabled(receive, b.receive_mask) * 256
-}
-
-fn enabled(status: u16, mask: u8) -> u32
-    ensures { (result ≡ Plans.enabled status mask) × (result ≤ 255) }
-{
-    (status & mask as u16) as u32
-}
-
-// Every channel is reset, and none refuses.
-fn all_reset(
-    b: Board,
-    r0: u16,
-    r1: u16,
-    r2: u16,
-    r3: u16,
-    r4: u16,
-    r5: u16,
-    r6: u16,
-    r7: u16,
-) -> u16
-    ensures { result ≡ 0 }
-{
-    0
-}
-
-// == the calls on a lent board and a lent room ==
+// == what C calls, on a lent board and a lent room. C is told one number (include/interfacer3.h), so that a Result ends here ==
 
 // Reads a port: 0 to 3 are the selected channel's registers, 4 and 5 the interrupt status.
 #[tactic(auto, unfolding(board_rules::specs::Runs::answer, board_rules::specs::Runs::said, board_rules::specs::Runs::board_after, board_rules::specs::Runs::room_after))]
@@ -258,70 +186,29 @@ pub fn interfacer3_in(board: &mut Board, room: &mut [Device], port: u8) -> u16
     ensures board { board.new ≡ board_after board.old room.old (In port) }
     ensures room { room.new ≡ room_after board.old room.old (In port) }
 {
-    let plan = plan_in(*board, room.len(), port);
-    *board = plan.board;
-    if plan.ends {
-        return plan.answer;
-    }
-    if plan.single {
-        return host::ins2651_read(&mut room[plan.channel], port);
-    }
-    interrupt_status(
-        plan.board,
-        host::ins2651_peek(&mut room[0]),
-        host::ins2651_peek(&mut room[1]),
-        host::ins2651_peek(&mut room[2]),
-        host::ins2651_peek(&mut room[3]),
-        host::ins2651_peek(&mut room[4]),
-        host::ins2651_peek(&mut room[5]),
-        host::ins2651_peek(&mut room[6]),
-        host::ins2651_peek(&mut room[7]),
-        port,
-    )
+    answered(read_port(board, room, port))
 }
 
 // Writes a port: 0 to 3 are the selected channel's registers, 4 and 5 the masks, 7 the select.
-#[tactic(auto, using(crate::proofs::Eight::write_fits), unfolding(board_rules::specs::Runs::answer, board_rules::specs::Runs::said, board_rules::specs::Runs::board_after, board_rules::specs::Runs::room_after, crate::specs::Plans::plan_out))]
 pub fn interfacer3_out(board: &mut Board, room: &mut [Device], port: u8, value: u8) -> u16
     ensures answer { result ≡ answer board.old room.old (Out port value) }
     ensures board { board.new ≡ board_after board.old room.old (Out port value) }
     ensures room { room.new ≡ room_after board.old room.old (Out port value) }
 {
-    let plan = plan_out(*board, room.len(), port, value);
-    *board = plan.board;
-    if plan.ends {
-        return plan.answer;
-    }
-    host::ins2651_write(&mut room[plan.channel], port, value) * 256
+    answered(write_port(board, room, port, value))
 }
 
 // Resets every channel and the board, but for its number.
-#[tactic(auto, using(crate::proofs::Eight::room_reset), unfolding(board_rules::specs::Runs::answer, board_rules::specs::Runs::said, board_rules::specs::Runs::board_after, board_rules::specs::Runs::room_after, crate::specs::Plans::plan_reset))]
 pub fn interfacer3_reset(board: &mut Board, room: &mut [Device]) -> u16
     ensures answer { result ≡ answer board.old room.old Reset }
     ensures board { board.new ≡ board_after board.old room.old Reset }
     ensures room { room.new ≡ room_after board.old room.old Reset }
 {
-    let plan = plan_reset(*board, room.len());
-    *board = plan.board;
-    if plan.ends {
-        return plan.answer;
-    }
-    all_reset(
-        plan.board,
-        host::ins2651_reset(&mut room[0]),
-        host::ins2651_reset(&mut room[1]),
-        host::ins2651_reset(&mut room[2]),
-        host::ins2651_reset(&mut room[3]),
-        host::ins2651_reset(&mut room[4]),
-        host::ins2651_reset(&mut room[5]),
-        host::ins2651_reset(&mut room[6]),
-        host::ins2651_reset(&mut room[7]),
-    )
+    answered(reset_all(board, room))
 }
 
 // Sets the three modem inputs of a channel.
-#[tactic(auto, using(crate::proofs::Eight::pins_fit), unfolding(board_rules::specs::Runs::answer, board_rules::specs::Runs::said, board_rules::specs::Runs::board_after, board_rules::specs::Runs::room_after))]
+#[tactic(auto, using(crate::proofs::Fits::pins_fit), unfolding(board_rules::specs::Runs::answer, board_rules::specs::Runs::said, board_rules::specs::Runs::board_after, board_rules::specs::Runs::room_after))]
 pub fn interfacer3_pins(
     board: &mut Board,
     room: &mut [Device],
@@ -334,12 +221,9 @@ pub fn interfacer3_pins(
     ensures board { board.new ≡ board_after board.old room.old (Pins channel dsr dcd cts) }
     ensures room { room.new ≡ room_after board.old room.old (Pins channel dsr dcd cts) }
 {
-    let plan = plan_pins(*board, room.len(), channel, dsr, dcd, cts);
-    *board = plan.board;
-    if plan.ends {
-        return plan.answer;
-    }
-    host::ins2651_pins(&mut room[plan.channel], dsr, dcd, cts) * 256
+    answered(on_channel(room, channel, |device| {
+        host::ins2651_pins(device, dsr, dcd, cts) * 256
+    }))
 }
 
 // A transmit tick of a channel; answers the level that it sends.
@@ -349,27 +233,19 @@ pub fn interfacer3_transmit(board: &mut Board, room: &mut [Device], channel: u8)
     ensures board { board.new ≡ board_after board.old room.old (Transmit channel) }
     ensures room { room.new ≡ room_after board.old room.old (Transmit channel) }
 {
-    let plan = plan_named(*board, room.len(), channel);
-    *board = plan.board;
-    if plan.ends {
-        return plan.answer;
-    }
-    host::ins2651_transmit(&mut room[plan.channel])
+    answered(on_channel(room, channel, host::ins2651_transmit))
 }
 
 // A receive tick of a channel with its line at a level.
-#[tactic(auto, using(crate::proofs::Eight::receive_fits), unfolding(board_rules::specs::Runs::answer, board_rules::specs::Runs::said, board_rules::specs::Runs::board_after, board_rules::specs::Runs::room_after))]
+#[tactic(auto, using(crate::proofs::Fits::receive_fits), unfolding(board_rules::specs::Runs::answer, board_rules::specs::Runs::said, board_rules::specs::Runs::board_after, board_rules::specs::Runs::room_after))]
 pub fn interfacer3_receive(board: &mut Board, room: &mut [Device], channel: u8, level: u8) -> u16
     ensures answer { result ≡ answer board.old room.old (Receive channel level) }
     ensures board { board.new ≡ board_after board.old room.old (Receive channel level) }
     ensures room { room.new ≡ room_after board.old room.old (Receive channel level) }
 {
-    let plan = plan_receive(*board, room.len(), channel, level);
-    *board = plan.board;
-    if plan.ends {
-        return plan.answer;
-    }
-    host::ins2651_receive(&mut room[plan.channel], level) * 256
+    answered(on_channel(room, channel, |device| {
+        host::ins2651_receive(device, level) * 256
+    }))
 }
 
 // The levels of the outputs of a channel, as the bits of one number.
@@ -379,12 +255,7 @@ pub fn interfacer3_outputs(board: &mut Board, room: &mut [Device], channel: u8) 
     ensures board { board.new ≡ board_after board.old room.old (Outputs channel) }
     ensures room { room.new ≡ room_after board.old room.old (Outputs channel) }
 {
-    let plan = plan_named(*board, room.len(), channel);
-    *board = plan.board;
-    if plan.ends {
-        return plan.answer;
-    }
-    host::ins2651_outputs(&mut room[plan.channel])
+    answered(on_channel(room, channel, host::ins2651_outputs))
 }
 
 // The interrupt lines, a 1 where one is asserted: 65536 times the refusal, 256 times the receive byte and the transmit byte.
@@ -394,20 +265,6 @@ pub fn interfacer3_interrupts(board: &mut Board, room: &mut [Device]) -> u32
     ensures board { board.new ≡ board_after board.old room.old Interrupts }
     ensures room { room.new ≡ room_after board.old room.old Interrupts }
 {
-    let plan = plan_interrupts(*board, room.len());
-    *board = plan.board;
-    if plan.ends {
-        return raised(plan.answer);
-    }
-    interrupt_lines(
-        plan.board,
-        host::ins2651_peek(&mut room[0]),
-        host::ins2651_peek(&mut room[1]),
-        host::ins2651_peek(&mut room[2]),
-        host::ins2651_peek(&mut room[3]),
-        host::ins2651_peek(&mut room[4]),
-        host::ins2651_peek(&mut room[5]),
-        host::ins2651_peek(&mut room[6]),
-        host::ins2651_peek(&mut room[7]),
-    )
+    // of 32 bits: made one with `answered`, the other seven calls would cast their answers up and down again
+    read_lines(board, room).unwrap_or_else(|refusal| u32::from(u16::from(refusal)) * 65536)
 }

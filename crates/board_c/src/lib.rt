@@ -1,4 +1,5 @@
-// The C archive of `board`: each export is the call of that name there, with its contract. include/interfacer3.h is C's view.
+// The C archive of `board`: each export is the call of that name there, with its contract again, since C knows it by this name.
+// include/interfacer3.h is C's view.
 #![tactic(auto)]
 
 ghost use Rattle.std.specs.Prelude.{◌≡◌};

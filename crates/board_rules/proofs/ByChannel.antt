@@ -12,7 +12,7 @@ use lib.ListN.{length}
 use borrow.Author.Tests.{eq-eqb, ne_eqb}
 use Rattle.line_rules.proofs.Choice.{either}
 use Rattle.ins2651_rules.specs.declared.Device.{Device}
-use Rattle.ins2651_rules.specs.declared.Answer.{Answer}
+use Rattle.ins2651_rules.specs.Shape.{Answer}
 use Rattle.ins2651_rules.specs.Modes.{has}
 use Rattle.ins2651_rules.specs.Ranges.{in_range}
 use Rattle.ins2651_rules.specs.Status.{weigh}

@@ -1,4 +1,5 @@
 pub mod Fits
+pub mod Bits
 pub mod Channels
 pub mod OfTheChip
 pub mod ByTests

@@ -3,7 +3,8 @@
 // wrong definition or statement is refused without proving the calls again.
 #![tactic(auto)]
 
-// What a board has besides its channels: its number, as its switches are set, the user select and the two interrupt masks.
+// What a board has besides its channels: its number, as its switches are set, the user select and the two interrupt masks. Four bytes, for C
+// lends any (include/interfacer3.h).
 #[repr(C)]
 #[derive(Clone, Copy)]
 pub struct Board {

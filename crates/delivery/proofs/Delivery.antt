@@ -8,12 +8,12 @@ use mathlib.Core.Bool.{Bool, true, false, cond, not, ◌&&◌}
 use mathlib.Core.List.{List, [], ◌∷◌, map}
 use lib.Dec.{ltb, eqb}
 use borrow.Author.Tests.{ltb-true, ltb-false, lt-ltb, le-ltb}
+use Rattle.std.specs.Prelude.{Option, Some}
+use Rattle.line_rules.specs.declared.Arrival.{Arrival}
 use Rattle.line_rules.specs.declared.Format.{Format}
 use Rattle.line_rules.specs.declared.Receiver.{Receiver}
-use Rattle.line_rules.specs.declared.Heard.{Heard}
 use Rattle.line_rules.specs.declared.TxC.{TxC}
 use Rattle.line_rules.specs.declared.RxC.{RxC}
-use Rattle.line_rules.specs.declared.Heard.TheVariants.{Character}
 use Rattle.line_rules.specs.Sending.{bit, on, cut, frame_length, stop_sample, level, listed}
 use Rattle.line_rules.specs.Range.{Bounds}
 use Rattle.line_rules.specs.Clocks.{tx_later, rx_later, no_txc}
@@ -27,11 +27,9 @@ use Rattle.line_rules.proofs.Flight.{alike_sees, flies, lands, after_next}
 use Rattle.link_rules.specs.declared.Frame.{Frame}
 use Rattle.link_rules.specs.declared.SenderHalf.{SenderHalf}
 use Rattle.link_rules.specs.declared.ReceiverHalf.{ReceiverHalf}
-use Rattle.link_rules.specs.declared.Sent.{Sent}
-use Rattle.link_rules.specs.declared.Received.{Received}
 use Rattle.link_rules.specs.Parts.{no_frame, loaded, emptied, receiver_later}
-use Rattle.link_rules.specs.Transmitting.{frame_next, transmit}
-use Rattle.link_rules.specs.Hearing.{stepped, holds, arrives, after_sample, receive}
+use Rattle.link_rules.specs.Transmitting.{Sent, frame_next, transmit}
+use Rattle.link_rules.specs.Hearing.{Received, stepped, holds, arrives, after_sample, receive}
 use Rattle.link_rules.proofs.Halves.{transmit_under, length_bound, frame_of, frame_goes_on, frame_ends, Tuned, stepped_tuned, receive_is}
 use Rattle.delivery.specs.Log.{Entry, Way, nothing_yet, log_write, log_arrival, log_read}
 use Rattle.delivery.specs.OneWay.{latest}
@@ -90,12 +88,12 @@ module _ {f g : Format} (fit : Fit f g) (t : RxC) where
 
   flying : (c i : ℕ) (n : RxC) → c < 256 → i < D → sample g (in_flight c i) (level f c i) n ≡ quiet (in_flight c (suc i))
   flying c i n byte h =
-      ap₂ (λ (r : Receiver) (h : Heard). record { next = r; heard = h }) (sym (after_next g (level f c) i n))
+      ap₂ (λ (r : Receiver) (h : Option Arrival). record { next = r; heard = h }) (sym (after_next g (level f c) i n))
       (flies g c (level f c) ticks byte (alike_sees f g c ticks alike) i n (omega (arith, same_stop)))
 
   -- what comes with a good stop sample
   abbrev good : ℕ → RxC → Sampled
-  good v n = record { next = searching; heard = Character (record { value = v; parity = false; framing = false; stamp = n }) }
+  good v n = record { next = searching; heard = Some (record { value = v; parity = false; framing = false; stamp = n }) }
 
   landing : (c i : ℕ) (n : RxC) → c < 256 → i ≡ D → sample g (in_flight c i) (level f c i) n ≡ good (cut f c) n
   landing c i n byte e =

@@ -11,10 +11,9 @@ use Rattle.line_rules.specs.Receiving.{searching}
 use Rattle.line_rules.specs.Sees.{Alike}
 use Rattle.link_rules.specs.declared.SenderHalf.{SenderHalf}
 use Rattle.link_rules.specs.declared.ReceiverHalf.{ReceiverHalf}
-use Rattle.link_rules.specs.declared.Received.{Received}
 use Rattle.link_rules.specs.Parts.{no_frame, loaded, emptied}
 use Rattle.link_rules.specs.Transmitting.{transmit}
-use Rattle.link_rules.specs.Hearing.{arrives, receive}
+use Rattle.link_rules.specs.Hearing.{Received, arrives, receive}
 use Rattle.delivery.specs.OneWay.{Deed, Ticks, Writes, Reads, Passes, OneWay}
 use Rattle.delivery.specs.Joined.{Chip}
 

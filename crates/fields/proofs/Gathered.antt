@@ -8,16 +8,18 @@ use native.Mathlib.Omega.{arith}
 use native.Mathlib.Nat.{pow-le-pow_right}
 use borrow.Author.Tests.{lt-ltb, le-ltb, ne_eqb, ltb-true, ltb-false}
 use lib.Dec.{ltb, eqb}
-use lib.ListN.{length, length-append}
+use lib.ListN.{length, length-append, take, set, replicate}
+use Rattle.std.specs.Prelude.{Some, None, option_and_then}
+use Rattle.std.proofs.lemmas.List.{set_past}
 use Rattle.fields.specs.declared.Field.{Field}
-use Rattle.fields.specs.Parted.{on_first, parts, no_number, are_digits, value_from, number_of, letter_of, field_of, fields_of}
-use Rattle.fields.specs.Reading.{counted, so_far, longer, only, extended, held, gathered, held_fields, empty, placed, parted, push, pushes}
+use Rattle.fields.specs.Parted.{on_first, parts, are_digits, value_from, number_of, letter_of, field_of, fields_of}
+use Rattle.fields.specs.Reading.{counted, blank, so_far, one_longer, longer, only, extended, held, gathered, held_fields, empty, placed, parted, push, pushes}
 use Rattle.fields.proofs.Digits.{digits_more, value_more, value_below}
 
 -- == a field ==
 
 -- an empty field is as one whose digits say 0
-so_far_is : (l : List ℕ) → so_far (field_of l) ≡ cond (are_digits l && ltb (length l) 10) (value_from 0 l) no_number
+so_far_is : (l : List ℕ) → so_far (field_of l) ≡ cond (are_digits l && ltb (length l) 10) (Some (value_from 0 l)) None
 unfolding field_of
 so_far_is [] = refl
 so_far_is (x ∷ xs) = rw (ne_eqb (min (suc (length xs)) 10) 0 (λ e. omega arith), lt-ltb 0 (suc (length xs)) (omega arith), and-true)
@@ -26,15 +28,15 @@ longer_is : (l : List ℕ) (b : ℕ) → longer (field_of l) b ≡ number_of (l 
 unfolding longer field_of
 longer_is l b = go (are_digits l) refl (ltb (length l) 9) refl
   where
-    same : (t : Bool) → cond t no_number no_number ≡ no_number
-    same true = refl
-    same false = refl
+    full : ltb (min (length l) 10) 9 ≡ false → (t : Bool) → option_and_then (one_longer (min (length l) 10) b) (cond t (Some (value_from 0 l)) None) ≡ None
+    full e true = rw (e, and-false) refl
+    full e false = refl
 
     go : (a : Bool) → are_digits l ≡ a → (t : Bool) → ltb (length l) 9 ≡ t → longer (field_of l) b ≡ number_of (l ++ b ∷ [])
     go false e t f = rw (so_far_is, digits_more, e)
     go true e false f =
-        let full : 9 ≤ length l = omega (arith, ltb-false) in
-        simp (digits_more, length-append, and-false, same, e, le-ltb (min (length l) 10) 9 (omega arith), le-ltb (length l + 1) 10 (omega arith))
+        let long : 9 ≤ length l = omega (arith, ltb-false) in
+        rw (so_far_is, full (le-ltb (min (length l) 10) 9 (omega arith)), length-append, le-ltb (length l + 1) 10 (omega arith), and-false) refl
     go true e true f =
         let room : length l ≤ 8 = omega (arith, ltb-true) in
         let low : value_from 0 l < 100000000 = omega (arith, value_below l 0 e, pow-le-pow_right {n = 10} (omega arith) room) in
@@ -62,16 +64,20 @@ extended_is l b = rw (longer_is l b, only_is l b, counted_is, length-append)
 
 -- == the fields of a line ==
 
+-- a field behind those that are kept: a fifth is not
+kept_more : (before : List Field) (x : Field) → set (take 4 (before ++ replicate 4 blank)) (min (length before) 5) x ≡ take 4 ((before ++ x ∷ []) ++ replicate 4 blank)
+kept_more [] x = refl
+kept_more (p ∷ []) x = refl
+kept_more (p ∷ q ∷ []) x = refl
+kept_more (p ∷ q ∷ r ∷ []) x = refl
+kept_more (p ∷ q ∷ r ∷ s ∷ []) x = refl
+kept_more (p ∷ q ∷ r ∷ s ∷ t ∷ ts) x = set_past _ _ x (omega arith)
+
 push_is :
     (before : List Field) (x : Field) (b : ℕ)
     → push (held before x) b ≡ cond (eqb b 9) (held (before ++ x ∷ []) (field_of [])) (held before (extended x b))
 unfolding push parted placed field_of
-push_is [] x b = refl
-push_is (p ∷ []) x b = refl
-push_is (p ∷ q ∷ []) x b = refl
-push_is (p ∷ q ∷ r ∷ []) x b = refl
-push_is (p ∷ q ∷ r ∷ s ∷ []) x b = refl
-push_is (p ∷ q ∷ r ∷ s ∷ t ∷ ts) x b = refl
+push_is before x b = rw (kept_more, counted_is, length-append) refl
 
 -- g put before the first part
 abbrev pub onto : List ℕ → List (List ℕ) → List (List ℕ)

@@ -2,7 +2,7 @@
 -- Assumes nothing.
 use mathlib.Core.Path.{◌≡◌, refl}
 use mathlib.Core.List.{List, [], ◌∷◌, ◌++◌, append-nil}
-use mathlib.Core.Bool.{Bool, true, false, ◌&&◌, and-eq-true_iff}
+use mathlib.Core.Bool.{true, ◌&&◌, and-eq-true_iff}
 use Prim.Native.Nat.{ℕ, suc, zero, ◌+◌, ◌-◌, ◌*◌, ◌/◌, ◌%◌, ◌^◌, ◌<◌}
 use native.Mathlib.Omega.{arith}
 use native.Mathlib.Nat.{zero-add, add-zero}
@@ -10,7 +10,9 @@ use borrow.Author.Tests.{lt-ltb, le-leb, ltb-true}
 use lib.Dec.{ltb}
 use lib.ListN.{length, length-append}
 use lib.Seq.{append_snoc}
-use Rattle.fields.specs.Parted.{no_number, are_digits, value_from, number_of, numeral}
+use Rattle.std.specs.Prelude.{Some}
+use Rattle.std.proofs.lemmas.Option.{cond_some}
+use Rattle.fields.specs.Parted.{are_digits, value_from, number_of, numeral}
 use Rattle.fields.proofs.Digits.{digits_more, digits_first, value_more, value_below}
 
 pub length_numeral : (k n : ℕ) → length (numeral k n) ≡ k
@@ -25,7 +27,7 @@ value_numeral : (k n : ℕ) → n < 10 ^ k → value_from 0 (numeral k n) ≡ n
 value_numeral zero n h = omega arith
 value_numeral (suc k) n h = rw (value_more, value_numeral k (n / 10) (omega arith)) (omega arith)
 
-pub reads_numeral : (k n : ℕ) → 0 < k → k < 10 → n < 10 ^ k → number_of (numeral k n) ≡ n
+pub reads_numeral : (k n : ℕ) → 0 < k → k < 10 → n < 10 ^ k → number_of (numeral k n) ≡ Some n
 reads_numeral k n some few within = rw (digits_numeral, length_numeral, lt-ltb 0 k, lt-ltb k 10, value_numeral k n)
 
 -- digits behind a numeral
@@ -39,24 +41,21 @@ numeral_more (b ∷ bs) k v e =
     let size : k + suc (length bs) ≡ suc k + length bs = omega arith in
     rw size (rw (front, last, append_snoc) at (numeral_more bs (suc k) w t.2))
 
--- a field of 1 to 9 digits
-pub record Numeral (l : List ℕ) : Type 0 where
+-- a field of 1 to 9 digits, that says n
+pub record Numeral (l : List ℕ) (n : ℕ) : Type 0 where
   pub some : 0 < length l
   pub few : length l < 10
-  pub within : number_of l < 10 ^ length l
-  pub text : l ≡ numeral (length l) (number_of l)
+  pub within : n < 10 ^ length l
+  pub text : l ≡ numeral (length l) n
 
-pub number_is : (l : List ℕ) → ltb (number_of l) no_number ≡ true → Numeral l
-number_is l h = go _ refl
-  where
-    go : (t : Bool) → (are_digits l && ltb 0 (length l) && ltb (length l) 10) ≡ t → Numeral l
-    go false e = absurd (omega (arith, ltb-true no_number no_number (rw e at h)))
-    go true e =
-        let t = (and-eq-true_iff (are_digits l && ltb 0 (length l)) (ltb (length l) 10)).0 e in
-        let u = (and-eq-true_iff (are_digits l) (ltb 0 (length l))).0 t.0 in
-        record {
-          some = ltb-true _ _ u.1;
-          few = ltb-true _ _ t.1;
-          within = rw e (omega (arith, value_below l 0 u.0));
-          text = rw e (rw zero-add at (numeral_more l 0 0 u.0));
-        }
+pub number_is : (l : List ℕ) (n : ℕ) → number_of l ≡ Some n → Numeral l n
+number_is l n h =
+    let c = cond_some (are_digits l && ltb 0 (length l) && ltb (length l) 10) (value_from 0 l) n h in
+    let t = (and-eq-true_iff (are_digits l && ltb 0 (length l)) (ltb (length l) 10)).0 c.0 in
+    let u = (and-eq-true_iff (are_digits l) (ltb 0 (length l))).0 t.0 in
+    record {
+      some = ltb-true _ _ u.1;
+      few = ltb-true _ _ t.1;
+      within = omega (arith, value_below l 0 u.0, c.1);
+      text = rw (← c.1) (rw zero-add at (numeral_more l 0 0 u.0));
+    }

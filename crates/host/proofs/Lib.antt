@@ -10,3 +10,4 @@ pub mod Looks
 pub mod Refusable
 pub mod Promises
 pub mod TakenApart
+pub mod Told

@@ -9,10 +9,7 @@ use borrow.Author.Tests.{eqb-true, eqb-false, eq-eqb, ne_eqb}
 use Rattle.line_rules.specs.Sending.{bit, on}
 use Rattle.line_rules.proofs.Choice.{each}
 use Rattle.ins2651_rules.specs.declared.Device.{Device}
-use Rattle.ins2651_rules.specs.declared.Answer.{Answer}
-use Rattle.ins2651_rules.specs.declared.Outcome.{Outcome}
-use Rattle.ins2651_rules.specs.declared.Ticked.{Ticked}
-use Rattle.ins2651_rules.specs.Shape.{reset_device, send_counted, hear_counted, device_later, done}
+use Rattle.ins2651_rules.specs.Shape.{Ticked, Outcome, Answer, reset_device, send_counted, hear_counted, device_later, done}
 use Rattle.ins2651_rules.specs.Ranges.{in_range, settled}
 use Rattle.ins2651_rules.specs.RegisterReads.{read_holding, read_status, read_register, read}
 use Rattle.ins2651_rules.specs.RegisterWrites.{write_holding, write_register, write}

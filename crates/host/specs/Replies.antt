@@ -1,15 +1,12 @@
--- How C gets an answer as one number; and what the acts on a lent device in range answer and leave, of which its calls are made.
+-- How C gets an answer as one number; and what a call on a lent device in range comes to where a tick may only count, or the call be refused.
 -- Assumes nothing.
-use Rattle.std.specs.Prelude.{ℕ, ◌+◌, ◌*◌, ◌/◌, ◌%◌, cond}
+use Rattle.std.specs.Prelude.{ℕ, ◌+◌, ◌*◌, ◌/◌, ◌%◌, cond, Result, Ok, Err, ⊤}
 use Rattle.line_rules.specs.Sending.{on}
 use Rattle.ins2651_rules.specs.declared.Device.{Device}
-use Rattle.ins2651_rules.specs.declared.Answer.{Answer}
 use Rattle.ins2651_rules.specs.declared.OutputPins.{OutputPins}
-use Rattle.ins2651_rules.specs.Shape.{reset_device, send_counted, hear_counted, device_later}
-use Rattle.ins2651_rules.specs.Refusals.{read_refusal, write_refusal, pins_refusal, level_refusal}
-use Rattle.ins2651_rules.specs.RegisterReads as RegisterReads
-use Rattle.ins2651_rules.specs.RegisterWrites as RegisterWrites
-use Rattle.ins2651_rules.specs.Pinning as Pinning
+use Rattle.ins2651_rules.specs.declared.Refusal.{Refusal}
+use Rattle.ins2651_rules.specs.Shape.{Answer, hear_counted, device_later}
+use Rattle.ins2651_rules.specs.Refusals.{read_refusal, write_refusal, pins_refusal, level_refusal, number}
 use Rattle.ins2651_rules.specs.Ticks as Ticks
 use Rattle.ins2651_rules.specs.Still.{searches, still}
 use Rattle.host.specs.declared.Reply.{Reply}
@@ -18,59 +15,27 @@ use Rattle.host.specs.declared.Reply.{Reply}
 abbrev pub word : Answer → ℕ
 word a = a.refusal * 256 + a.value
 
+-- a call's Result so: the refusal's number, and 0 of what is done; ..
+abbrev pub refusal_told : Result ⊤ Refusal → ℕ
+refusal_told (Ok x) = 0
+refusal_told (Err r) = number r
+
+-- .. and of a read or a tick 256 times it, or the value
+abbrev pub word_told : Result ℕ Refusal → ℕ
+word_told (Ok v) = v
+word_told (Err r) = number r * 256
+
 -- the outputs as one number: TxRDY 1, RxRDY 2, TxEMT/DSCHG 4, DTR 8, RTS 16, each where its level is high
 abbrev pub levels : OutputPins → ℕ
 levels o = o.txrdy + o.rxrdy * 2 + o.txemt * 4 + o.dtr * 8 + o.rts * 16
 
--- == the acts on a device in range: the answer, and the device after it ==
+-- == both ticks of a device in range: the answer, and the device after them ==
 
--- what is done and has no value answers 0
-abbrev pub done : Device → Reply
-done d = record { answer = 0; device = d }
-
-abbrev pub reset : Device → Reply
-reset d = done reset_device
-
--- a read that is done answers its value
-abbrev pub valued : Answer → Reply
-valued a = record { answer = a.value; device = a.device }
-
-abbrev pub read_status : Device → ℕ → Reply
-read_status d address = valued (RegisterReads.read_status d)
-
-abbrev pub read_data : Device → ℕ → Reply
-read_data d address = valued (RegisterReads.read_holding d)
-
-abbrev pub read_register : Device → ℕ → Reply
-read_register d address = valued (RegisterReads.read_register d address)
-
-abbrev pub write_data : Device → ℕ → ℕ → Reply
-write_data d address value = done (RegisterWrites.write_holding d value)
-
-abbrev pub write_register : Device → ℕ → ℕ → Reply
-write_register d address value = done (RegisterWrites.write_register d address value)
-
-abbrev pub set_pins : Device → ℕ → ℕ → ℕ → Reply
-set_pins d dsr dcd cts = done (Pinning.pinned d dsr dcd cts)
-
-abbrev pub transmit : Device → Reply
-transmit d = record { answer = (Ticks.transmit_tick d).level; device = (Ticks.transmit_tick d).device }
-
-abbrev pub receive : Device → ℕ → Reply
-receive d level = done (Ticks.receive_tick d (on level))
-
--- both ticks, answering the level that the second sends
+-- the level that the second sends
 abbrev pub both_ticks : Device → ℕ → Reply
 both_ticks d level = record { answer = (Ticks.both_ticks d (on level)).level; device = (Ticks.both_ticks d (on level)).device }
 
--- == the ticks that only count (P4) ==
-
-abbrev pub counted_send : Device → Reply
-counted_send d = record { answer = 1; device = send_counted d }
-
-abbrev pub counted_hear : Device → ℕ → Reply
-counted_hear d level = done (hear_counted d)
-
+-- where both only count (P4) a 1 is sent
 abbrev pub counted_both : Device → ℕ → Reply
 counted_both d level = record { answer = 1; device = device_later 1 d }
 

@@ -1,2 +1,3 @@
 mod Branches
+mod Masks
 mod Weights

@@ -15,8 +15,7 @@ use Rattle.ins2651_rules.specs.declared.Registers.{Registers}
 use Rattle.ins2651_rules.specs.declared.Pins.{Pins}
 use Rattle.ins2651_rules.specs.declared.Flags.{Flags}
 use Rattle.ins2651_rules.specs.declared.Device.{Device}
-use Rattle.ins2651_rules.specs.declared.Answer.{Answer}
-use Rattle.ins2651_rules.specs.Shape.{with_status, with_parts, with_registers, pin_levels, with_empty, with_change}
+use Rattle.ins2651_rules.specs.Shape.{Answer, with_status, with_parts, with_registers, pin_levels, with_empty, with_change}
 use Rattle.ins2651_rules.specs.Modes.{has}
 use Rattle.ins2651_rules.specs.Conditions.{transmit_enabled, vacant}
 use Rattle.ins2651_rules.specs.Ranges.{in_range, settled}

@@ -6,17 +6,16 @@ use native.Mathlib.Omega.{arith}
 use mathlib.Core.Path.{◌≡◌, refl, sym, ap, ap₂, subst, ◌∙◌}
 use mathlib.Core.Bool.{Bool, true, false, cond, ◌||◌, true≢false}
 use lib.Dec.{eqb}
+use Rattle.std.specs.Prelude.{Option, None, Some}
+use Rattle.line_rules.specs.declared.Arrival.{Arrival}
 use Rattle.line_rules.specs.declared.Format.{Format}
-use Rattle.line_rules.specs.declared.Heard.{Heard}
-use Rattle.line_rules.specs.declared.Heard.TheVariants.{Nothing, Character}
 use Rattle.line_rules.specs.Sending.{bit, on}
 use Rattle.line_rules.proofs.Bits.{on_bit}
 use Rattle.line_rules.proofs.Choice.{all, neither}
 use Rattle.line_rules.proofs.Table.{both}
 use Rattle.link_rules.specs.declared.ReceiverHalf.{ReceiverHalf}
-use Rattle.link_rules.specs.declared.Received.{Received}
 use Rattle.link_rules.specs.Parts.{emptied}
-use Rattle.link_rules.specs.Hearing.{arrives}
+use Rattle.link_rules.specs.Hearing.{Received, arrives}
 use Rattle.link_rules.specs.Hearing as link-hearing
 use Rattle.ins2651_rules.specs.declared.Registers.{Registers}
 use Rattle.ins2651_rules.specs.declared.Pins.{Pins}
@@ -94,9 +93,9 @@ hears_through d h =
     record { ready = hears_same d (next d Transmit) h (next_in d Transmit h.within) w.registers w.pins (same_none w.errors h.no_errors); half = w.receiver }
 
 -- an arrival with no fault, into a register that was read, sets no flag
-noted_same : (f : Flags) (o : Bool) (k : Heard) → (o || arrives faulty k) ≡ false → SameErrors f (noted f o k)
-noted_same f o Nothing q = record { framing = refl; overrun = refl; parity = refl }
-noted_same f o (Character a) q =
+noted_same : (f : Flags) (o : Bool) (k : Option Arrival) → (o || arrives faulty k) ≡ false → SameErrors f (noted f o k)
+noted_same f o None q = record { framing = refl; overrun = refl; parity = refl }
+noted_same f o (Some a) q =
     let n = neither o (faulty a) q in
     let none = neither a.parity a.framing n.1 in
     rw (n.0, none.0, none.1) (record { framing = refl; overrun = refl; parity = refl })

@@ -12,7 +12,7 @@ use Rattle.line_rules.proofs.Bits.{on_bit}
 use Rattle.line_rules.proofs.Choice.{all, not_so}
 use Rattle.line_rules.proofs.Table.{both}
 use Rattle.link_rules.specs.declared.SenderHalf.{SenderHalf}
-use Rattle.link_rules.specs.declared.Sent.{Sent}
+use Rattle.link_rules.specs.Transmitting.{Sent}
 use Rattle.link_rules.specs.Parts.{loaded}
 use Rattle.link_rules.specs.Transmitting as link-transmitting
 use Rattle.ins2651_rules.specs.declared.Registers.{Registers}

@@ -7,11 +7,11 @@ use mathlib.Core.Bool.{Bool, true, false, cond, ◌&&◌}
 use mathlib.Core.List.{List, [], ◌∷◌}
 use lib.Dec.{leb, eqb}
 use borrow.Author.Tests.{eqb-true, eqb-false}
+use Rattle.std.specs.Prelude.{Option, None, Some}
+use Rattle.line_rules.specs.declared.Arrival.{Arrival}
 use Rattle.line_rules.specs.declared.Format.{Format}
 use Rattle.line_rules.specs.declared.Receiver.{Receiver}
 use Rattle.line_rules.specs.declared.RxC.{RxC}
-use Rattle.line_rules.specs.declared.Heard.{Heard}
-use Rattle.line_rules.specs.declared.Heard.TheVariants.{Nothing, Character}
 use Rattle.line_rules.specs.Sending.{bit, on}
 use Rattle.line_rules.specs.Arrived.{Arrived}
 use Rattle.line_rules.specs.Clocks.{rx_later}
@@ -23,14 +23,13 @@ use Rattle.line_rules.proofs.Samples.{leaves_alike}
 use Rattle.line_rules.proofs.Received as line-received
 use Rattle.line_rules.proofs.Table.{both}
 use Rattle.link_rules.specs.declared.ReceiverHalf.{ReceiverHalf}
-use Rattle.link_rules.specs.declared.Received.{Received}
 use Rattle.link_rules.specs.Parts.{emptied, dropped, receiver_later}
-use Rattle.link_rules.specs.Hearing.{brought, stepped}
+use Rattle.link_rules.specs.Hearing.{Received, brought, stepped}
 use Rattle.link_rules.specs.Hearing as link-hearing
 use Rattle.line_rules.proofs.Choice.{either}
 use Rattle.link_rules.proofs.Halves.{Tuned, receive_is, receive_counts, hear_state, hear_heard, hear_tuned}
 use Rattle.ins2651_rules.specs.declared.Device.{Device}
-use Rattle.ins2651_rules.specs.declared.Outcome.{Outcome}
+use Rattle.ins2651_rules.specs.Shape.{Outcome}
 use Rattle.ins2651_rules.specs.Modes.{has, receive_enable, receive_format}
 use Rattle.ins2651_rules.specs.Conditions.{listening}
 use Rattle.ins2651_rules.specs.Ranges.{in_range, settled}
@@ -108,9 +107,9 @@ hearing_kept d c h s l = go (eqb (refusal d c) 0) refl
 
 -- == a sample ==
 
-brought_holding : (r : ReceiverHalf) (k : ℕ) (h : Heard) (rest : List Arrived) → last_held (held r) (tell k h rest) ≡ last_held (held (brought r h).half) rest
-brought_holding r k Nothing rest = refl
-brought_holding r k (Character a) rest = refl
+brought_holding : (r : ReceiverHalf) (k : ℕ) (h : Option Arrival) (rest : List Arrived) → last_held (held r) (tell k h rest) ≡ last_held (held (brought r h).half) rest
+brought_holding r k None rest = refl
+brought_holding r k (Some a) rest = refl
 
 module _ (f : Format) (d : Device) (x : Bool) (h : in_range d ≡ true) (l : Listens f d) (t : Tuned f d.receiver) where
   half_is : received d x ≡ link-hearing.receive d.receiver true f x
@@ -135,7 +134,7 @@ module _ (f : Format) (d : Device) (x : Bool) (h : in_range d ≡ true) (l : Lis
   holds_it : (k : ℕ) (rest : List Arrived) → last_held (held d.receiver) (tell k (received d x).heard rest) ≡ last_held (held (received d x).half) rest
   holds_it k rest =
       let o = sample f d.receiver.state x q.tally in
-      ap (λ (h : Heard). last_held (held d.receiver) (tell k h rest)) heard_is
+      ap (λ (h : Option Arrival). last_held (held d.receiver) (tell k h rest)) heard_is
       ∙ brought_holding (stepped q f o.next) k o.heard rest
       ∙ ap (λ (o : Received). last_held (held o.half) rest) (sym (half_is ∙ receive_is f d.receiver x t))
 

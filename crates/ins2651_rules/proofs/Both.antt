@@ -6,8 +6,7 @@ use mathlib.Core.Path.{◌≡◌, refl, ap, sym, ◌∙◌}
 use borrow.Author.Tests.{ne_eqb}
 use Rattle.line_rules.specs.Sending.{on}
 use Rattle.ins2651_rules.specs.declared.Device.{Device}
-use Rattle.ins2651_rules.specs.declared.Outcome.{Outcome}
-use Rattle.ins2651_rules.specs.Shape.{refused_read}
+use Rattle.ins2651_rules.specs.Shape.{Outcome, refused_read}
 use Rattle.ins2651_rules.specs.Ranges.{settled}
 use Rattle.ins2651_rules.specs.Refusals.{level_refusal}
 use Rattle.ins2651_rules.specs.Looks.{peek}

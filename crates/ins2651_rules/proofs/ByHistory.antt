@@ -7,18 +7,15 @@ use mathlib.Core.Bool.{Bool, true, false, cond, not, ◌&&◌, ◌||◌}
 use mathlib.Core.List.{List, [], ◌∷◌}
 use lib.Dec.{leb, eqb}
 use borrow.Author.Tests.{ltb-true, ltb-false, le-ltb, leb-true, eq-eqb, eqb-true, ne_eqb, eqb-false}
+use Rattle.std.specs.Prelude.{Option, None, Some}
 use Rattle.line_rules.specs.declared.Arrival.{Arrival}
-use Rattle.line_rules.specs.declared.Heard.{Heard}
-use Rattle.line_rules.specs.declared.Heard.TheVariants.{Nothing, Character}
 use Rattle.line_rules.specs.Sending.{on, differ, or_set}
 use Rattle.link_rules.specs.Parts.{dropped, emptied}
 use Rattle.link_rules.specs.Hearing.{arrives}
 use Rattle.line_rules.proofs.Choice.{either, each}
 use Rattle.link_rules.proofs.Halves.{full_after, unread_after, overrun_told}
 use Rattle.ins2651_rules.specs.declared.Device.{Device}
-use Rattle.ins2651_rules.specs.declared.Answer.{Answer}
-use Rattle.ins2651_rules.specs.declared.Outcome.{Outcome}
-use Rattle.ins2651_rules.specs.Shape.{reset_device, pin_levels}
+use Rattle.ins2651_rules.specs.Shape.{Outcome, Answer, reset_device, pin_levels}
 use Rattle.ins2651_rules.specs.Modes.{send_format, receive_format, transmit_enable, receive_enable, command_clears}
 use Rattle.ins2651_rules.specs.Conditions.{data_set_ready, carrier, transmit_enabled, may_start, break_on, listening, unread}
 use Rattle.ins2651_rules.specs.Status.{status_byte}
@@ -131,7 +128,7 @@ module _ (d : Device) (es : List Happened) (a : Agrees d es) where
       ap₂ ◌||◌ (levels_differ d.pins.dsr dsr p x ∙ ap (differ (eqb dsr 0)) a.dsr) (levels_differ d.pins.dcd dcd q y ∙ ap (differ (eqb dcd 0)) a.dcd) in
       record { dsr = itself (eqb dsr 0); dcd = itself (eqb dcd 0); framing = a.framing; overrun = a.overrun; parity = a.parity; empty = a.empty; change = set_or (changes d.pins dsr dcd) (differ (eqb dsr 0) (dsr_low es) || differ (eqb dcd 0) (dcd_low es)) d.flags.change (change_by es) e a.change; unread = a.unread; enabled = a.enabled; waiting = a.waiting }
 
-  transmit_shown : Agrees (transmit_tick d).device (record { call = Transmit; heard = Nothing; began = (sent d).began; drained = (sent d).drained } ∷ es)
+  transmit_shown : Agrees (transmit_tick d).device (record { call = Transmit; heard = None; began = (sent d).began; drained = (sent d).drained } ∷ es)
   unfolding transmit_tick
   transmit_shown =
       record { dsr = a.dsr; dcd = a.dcd; framing = a.framing; overrun = a.overrun; parity = a.parity; empty = set_or ((sent d).drained && transmit_enabled d) ((sent d).drained && enabled_by es) d.flags.empty (empty_by es) (ap (λ (b : Bool). (sent d).drained && b) a.enabled) a.empty; change = a.change; unread = a.unread; enabled = a.enabled; waiting = ap on (full_after d.sender (may_start d) (break_on d) (send_format d.registers)) ∙ begins (sent d).began }
@@ -141,30 +138,30 @@ module _ (d : Device) (es : List Happened) (a : Agrees d es) where
       begins false = a.waiting
 
   -- what arrived sets the flags that it was bad by
-  noted_framing : (o : Bool) (h : Heard) → on (noted d.flags o h).framing ≡ cond (arrives (λ (x : Arrival). x.framing) h) true (framing_by es)
-  noted_framing o Nothing = a.framing
-  noted_framing o (Character x) = set_or x.framing x.framing d.flags.framing (framing_by es) refl a.framing
+  noted_framing : (o : Bool) (h : Option Arrival) → on (noted d.flags o h).framing ≡ cond (arrives (λ (x : Arrival). x.framing) h) true (framing_by es)
+  noted_framing o None = a.framing
+  noted_framing o (Some x) = set_or x.framing x.framing d.flags.framing (framing_by es) refl a.framing
 
-  noted_parity : (o : Bool) (h : Heard) → on (noted d.flags o h).parity ≡ cond (arrives (λ (x : Arrival). x.parity) h) true (parity_by es)
-  noted_parity o Nothing = a.parity
-  noted_parity o (Character x) = set_or x.parity x.parity d.flags.parity (parity_by es) refl a.parity
+  noted_parity : (o : Bool) (h : Option Arrival) → on (noted d.flags o h).parity ≡ cond (arrives (λ (x : Arrival). x.parity) h) true (parity_by es)
+  noted_parity o None = a.parity
+  noted_parity o (Some x) = set_or x.parity x.parity d.flags.parity (parity_by es) refl a.parity
 
-  noted_overrun : (o : Bool) (h : Heard) → o ≡ (arrives (λ (x : Arrival). true) h && unread_by es) → on (noted d.flags o h).overrun ≡ cond (arrives (λ (x : Arrival). true) h && unread_by es) true (overrun_by es)
-  noted_overrun o Nothing e = a.overrun
-  noted_overrun o (Character x) e = set_or o (unread_by es) d.flags.overrun (overrun_by es) e a.overrun
+  noted_overrun : (o : Bool) (h : Option Arrival) → o ≡ (arrives (λ (x : Arrival). true) h && unread_by es) → on (noted d.flags o h).overrun ≡ cond (arrives (λ (x : Arrival). true) h && unread_by es) true (overrun_by es)
+  noted_overrun o None e = a.overrun
+  noted_overrun o (Some x) e = set_or o (unread_by es) d.flags.overrun (overrun_by es) e a.overrun
 
-  noted_empty : (o : Bool) (h : Heard) → on (noted d.flags o h).empty ≡ empty_by es
-  noted_empty o Nothing = a.empty
-  noted_empty o (Character x) = a.empty
+  noted_empty : (o : Bool) (h : Option Arrival) → on (noted d.flags o h).empty ≡ empty_by es
+  noted_empty o None = a.empty
+  noted_empty o (Some x) = a.empty
 
-  noted_change : (o : Bool) (h : Heard) → on (noted d.flags o h).change ≡ change_by es
-  noted_change o Nothing = a.change
-  noted_change o (Character x) = a.change
+  noted_change : (o : Bool) (h : Option Arrival) → on (noted d.flags o h).change ≡ change_by es
+  noted_change o None = a.change
+  noted_change o (Some x) = a.change
 
   receive_shown : (x : ℕ) → Agrees (receive_tick d (on x)) (record { call = Receive x; heard = (received d (on x)).heard; began = false; drained = false } ∷ es)
   unfolding receive_tick
   receive_shown x =
-      let h : Heard = (received d (on x)).heard in
+      let h : Option Arrival = (received d (on x)).heard in
       let o : Bool = (received d (on x)).overrun in
       let e : o ≡ (arrives (λ (y : Arrival). true) h && unread_by es) =
       overrun_told d.receiver (listening d) (receive_format d.registers) (on x) ∙ ap (λ (b : Bool). arrives (λ (y : Arrival). true) h && b) a.unread in

@@ -19,9 +19,8 @@ use Rattle.line_rules.proofs.Ranges.{in_range_bounds}
 use Rattle.line_rules.proofs.Table.{both}
 use Rattle.link_rules.specs.declared.Frame.{Frame}
 use Rattle.link_rules.specs.declared.SenderHalf.{SenderHalf}
-use Rattle.link_rules.specs.declared.Sent.{Sent}
 use Rattle.link_rules.specs.Parts.{no_frame, sender_later}
-use Rattle.link_rules.specs.Transmitting.{frame_next, begin_tick}
+use Rattle.link_rules.specs.Transmitting.{Sent, frame_next, begin_tick}
 use Rattle.link_rules.specs.Within.{holding_in_range, busy_in_range, free_in_range, frame_in_range, sender_in_range}
 use Rattle.link_rules.proofs.Halves.{frame_of, transmit_begins, full_after, holding_after, length_bound}
 use Rattle.ins2651_rules.specs.declared.Device.{Device}

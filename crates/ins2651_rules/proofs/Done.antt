@@ -8,9 +8,7 @@ use borrow.Author.Tests.{eq-eqb}
 use Rattle.line_rules.specs.Sending.{on}
 use Rattle.line_rules.proofs.Choice.{either}
 use Rattle.ins2651_rules.specs.declared.Device.{Device}
-use Rattle.ins2651_rules.specs.declared.Answer.{Answer}
-use Rattle.ins2651_rules.specs.declared.Outcome.{Outcome}
-use Rattle.ins2651_rules.specs.Shape.{done}
+use Rattle.ins2651_rules.specs.Shape.{Outcome, Answer, done}
 use Rattle.ins2651_rules.specs.Ranges.{in_range, settled}
 use Rattle.ins2651_rules.specs.Refusals.{read_refusal, write_refusal, pins_refusal, level_refusal}
 use Rattle.ins2651_rules.specs.RegisterReads.{read_register, read}

@@ -7,14 +7,14 @@ use mathlib.Core.Bool.{Bool, true, false, not, ◌&&◌}
 use mathlib.Core.List.{List, [], ◌∷◌}
 use lib.Dec.{eqb}
 use borrow.Author.Tests.{eq-eqb, eqb-true, eqb-false}
-use Rattle.line_rules.specs.declared.Heard.{Heard}
-use Rattle.line_rules.specs.declared.Heard.TheVariants.{Nothing, Character}
+use Rattle.std.specs.Prelude.{Option, None, Some}
+use Rattle.line_rules.specs.declared.Arrival.{Arrival}
 use Rattle.line_rules.specs.Sending.{bit, on, or_set}
 use Rattle.line_rules.proofs.Table.{both}
 use Rattle.line_rules.proofs.Choice.{either, each, not_so}
 use Rattle.ins2651_rules.specs.declared.Flags.{Flags}
 use Rattle.ins2651_rules.specs.declared.Device.{Device}
-use Rattle.ins2651_rules.specs.declared.Outcome.{Outcome}
+use Rattle.ins2651_rules.specs.Shape.{Outcome}
 use Rattle.ins2651_rules.specs.Modes.{command_clears}
 use Rattle.ins2651_rules.specs.Ranges.{in_range, settled}
 use Rattle.ins2651_rules.specs.Refusals.{command_refusal, write_refusal}
@@ -48,9 +48,9 @@ then f g h a b = record { framing = λ e. b.framing (a.framing e); overrun = λ 
 set_stays : (t : Bool) (x : ℕ) → on x ≡ true → on (or_set t x) ≡ true
 set_stays t x h = either (λ (k : ℕ). on k ≡ true) t refl h
 
-noted_stay : (f : Flags) (o : Bool) (h : Heard) → Stay f (noted f o h)
-noted_stay f o Nothing = stay f
-noted_stay f o (Character a) =
+noted_stay : (f : Flags) (o : Bool) (h : Option Arrival) → Stay f (noted f o h)
+noted_stay f o None = stay f
+noted_stay f o (Some a) =
     record { framing = set_stays a.framing f.framing; overrun = set_stays o f.overrun; parity = set_stays a.parity f.parity }
 
 -- an accepted command that does not say so clears none

@@ -14,12 +14,11 @@ use Rattle.line_rules.proofs.Choice.{either, each, not_so}
 use Rattle.line_rules.proofs.Table.{both}
 use Rattle.link_rules.specs.declared.Frame.{Frame}
 use Rattle.link_rules.specs.declared.SenderHalf.{SenderHalf}
-use Rattle.link_rules.specs.declared.Sent.{Sent}
 use Rattle.link_rules.specs.Parts.{no_frame, sender_later}
-use Rattle.link_rules.specs.Transmitting.{frame_next, frame_tick}
+use Rattle.link_rules.specs.Transmitting.{Sent, frame_next, frame_tick}
 use Rattle.link_rules.proofs.Halves.{frame_of, transmit_under, frame_goes_on, frame_ends}
 use Rattle.ins2651_rules.specs.declared.Device.{Device}
-use Rattle.ins2651_rules.specs.declared.Outcome.{Outcome}
+use Rattle.ins2651_rules.specs.Shape.{Outcome}
 use Rattle.ins2651_rules.specs.Modes.{send_format}
 use Rattle.ins2651_rules.specs.Conditions.{may_start, break_on}
 use Rattle.ins2651_rules.specs.Ranges as range

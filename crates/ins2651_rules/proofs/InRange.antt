@@ -6,8 +6,8 @@ use mathlib.Core.Bool.{Bool, true, false, cond, not, ◌&&◌}
 use mathlib.Core.List.{List, [], ◌∷◌}
 use lib.Dec.{leb, eqb}
 use borrow.Author.Tests.{eq-eqb, eqb-true, eqb-false}
-use Rattle.line_rules.specs.declared.Heard.{Heard}
-use Rattle.line_rules.specs.declared.Heard.TheVariants.{Nothing, Character}
+use Rattle.std.specs.Prelude.{Option, None, Some}
+use Rattle.line_rules.specs.declared.Arrival.{Arrival}
 use Rattle.line_rules.specs.Sending.{on, or_set}
 use Rattle.line_rules.proofs.Table.{both}
 use Rattle.link_rules.specs.declared.ReceiverHalf.{ReceiverHalf}
@@ -20,9 +20,7 @@ use Rattle.ins2651_rules.specs.declared.Registers.{Registers}
 use Rattle.ins2651_rules.specs.declared.Pins.{Pins}
 use Rattle.ins2651_rules.specs.declared.Flags.{Flags}
 use Rattle.ins2651_rules.specs.declared.Device.{Device}
-use Rattle.ins2651_rules.specs.declared.Answer.{Answer}
-use Rattle.ins2651_rules.specs.declared.Ticked.{Ticked}
-use Rattle.ins2651_rules.specs.Shape.{reset_device, with_registers, with_command, with_empty, with_change}
+use Rattle.ins2651_rules.specs.Shape.{Ticked, Answer, reset_device, with_registers, with_command, with_empty, with_change}
 use Rattle.ins2651_rules.specs.Modes.{has, command_clears, transmit_enable, receive_enable, send_format, receive_format}
 use Rattle.ins2651_rules.specs.Conditions.{may_start, break_on, listening}
 use Rattle.ins2651_rules.specs.Ranges.{mode1_in_range, command_in_range, registers_in_range, pins_in_range, flags_in_range, status_in_range, in_range}
@@ -211,9 +209,9 @@ module _ (d : Device) (p : In d) where
         status = sent_kept d p.status;
       }
 
-  noted_in : (o : Bool) (h : Heard) → flags_in_range (noted d.flags o h) ≡ true
-  noted_in o Nothing = p.flags
-  noted_in o (Character a) =
+  noted_in : (o : Bool) (h : Option Arrival) → flags_in_range (noted d.flags o h) ≡ true
+  noted_in o None = p.flags
+  noted_in o (Some a) =
       five (set_in a.framing d.flags.framing f.framing) (set_in o d.flags.overrun f.overrun) (set_in a.parity d.flags.parity f.parity) f.empty f.change
 
   receive_tick_in : (x : Bool) → In (receive_tick d x)

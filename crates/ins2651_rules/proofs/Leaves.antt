@@ -1,19 +1,17 @@
--- Nothing else moves: what each call leaves as it was, one law a call.
+-- None else moves: what each call leaves as it was, one law a call.
 -- Assumes nothing.
 use Prim.Native.Nat.{ℕ}
 use mathlib.Core.Path.{◌≡◌, refl, sym, subst}
 use mathlib.Core.Bool.{Bool}
 use lib.Dec.{eqb}
-use Rattle.line_rules.specs.declared.Heard.{Heard}
-use Rattle.line_rules.specs.declared.Heard.TheVariants.{Nothing, Character}
+use Rattle.std.specs.Prelude.{Option, None, Some}
+use Rattle.line_rules.specs.declared.Arrival.{Arrival}
 use Rattle.line_rules.specs.Sending.{on}
 use Rattle.line_rules.proofs.Choice.{either}
 use Rattle.ins2651_rules.specs.declared.Flags.{Flags}
 use Rattle.ins2651_rules.specs.declared.Registers.{Registers}
 use Rattle.ins2651_rules.specs.declared.Device.{Device}
-use Rattle.ins2651_rules.specs.declared.Answer.{Answer}
-use Rattle.ins2651_rules.specs.declared.Outcome.{Outcome}
-use Rattle.ins2651_rules.specs.Shape.{with_status, with_registers, with_receiver, with_mode_pointer, with_syn_pointer, with_syn1, with_syn2, with_dle, with_change}
+use Rattle.ins2651_rules.specs.Shape.{Outcome, Answer, with_status, with_registers, with_receiver, with_mode_pointer, with_syn_pointer, with_syn1, with_syn2, with_dle, with_change}
 use Rattle.ins2651_rules.specs.Ranges.{settled}
 use Rattle.ins2651_rules.specs.RegisterReads.{read_register}
 use Rattle.ins2651_rules.specs.Pinning.{pinned}
@@ -55,13 +53,13 @@ pub record ReceiveLeaves (d e : Device) : Type 0 where
   pub empty : e.flags.empty ≡ d.flags.empty
   pub change : e.flags.change ≡ d.flags.change
 
-noted_empty : (f : Flags) (o : Bool) (h : Heard) → (noted f o h).empty ≡ f.empty
-noted_empty f o Nothing = refl
-noted_empty f o (Character a) = refl
+noted_empty : (f : Flags) (o : Bool) (h : Option Arrival) → (noted f o h).empty ≡ f.empty
+noted_empty f o None = refl
+noted_empty f o (Some a) = refl
 
-noted_change : (f : Flags) (o : Bool) (h : Heard) → (noted f o h).change ≡ f.change
-noted_change f o Nothing = refl
-noted_change f o (Character a) = refl
+noted_change : (f : Flags) (o : Bool) (h : Option Arrival) → (noted f o h).change ≡ f.change
+noted_change f o None = refl
+noted_change f o (Some a) = refl
 
 tick_leaves : (d : Device) (x : Bool) → ReceiveLeaves d (receive_tick d x)
 unfolding receive_tick

@@ -5,6 +5,7 @@ pub mod Done
 pub mod Commands
 pub mod Formats
 pub mod Refused
+pub mod Told
 pub mod InRange
 pub mod Both
 pub mod StaysStill

@@ -9,10 +9,7 @@ use mathlib.Core.List.{List, [], ◌∷◌}
 use Rattle.line_rules.specs.Sending.{on}
 use Rattle.line_rules.specs.Clocks.{no_txc, no_rxc}
 use Rattle.ins2651_rules.specs.declared.Device.{Device}
-use Rattle.ins2651_rules.specs.declared.Answer.{Answer}
-use Rattle.ins2651_rules.specs.declared.Outcome.{Outcome}
-use Rattle.ins2651_rules.specs.declared.Ticked.{Ticked}
-use Rattle.ins2651_rules.specs.Shape.{reset_device, done}
+use Rattle.ins2651_rules.specs.Shape.{Ticked, Outcome, Answer, reset_device, done}
 use Rattle.ins2651_rules.specs.Status.{outputs_of}
 use Rattle.ins2651_rules.specs.Looks.{outputs}
 use Rattle.ins2651_rules.specs.Ranges.{in_range, settled}

@@ -8,8 +8,7 @@ use lib.Dec.{eqb}
 use Rattle.line_rules.proofs.Choice.{each}
 use Rattle.ins2651_rules.specs.declared.Registers.{Registers}
 use Rattle.ins2651_rules.specs.declared.Device.{Device}
-use Rattle.ins2651_rules.specs.declared.Answer.{Answer}
-use Rattle.ins2651_rules.specs.declared.Outcome.{Outcome}
+use Rattle.ins2651_rules.specs.Shape.{Outcome, Answer}
 use Rattle.ins2651_rules.specs.Ranges.{in_range, settled}
 use Rattle.ins2651_rules.specs.RegisterReads.{read_register}
 use Rattle.ins2651_rules.specs.RegisterWrites.{write_register}

@@ -14,8 +14,7 @@ use Rattle.link_rules.specs.Hearing.{arrived_or}
 use Rattle.link_rules.proofs.Halves.{character_held}
 use Rattle.ins2651_rules.specs.declared.Registers.{Registers}
 use Rattle.ins2651_rules.specs.declared.Device.{Device}
-use Rattle.ins2651_rules.specs.declared.Outcome.{Outcome}
-use Rattle.ins2651_rules.specs.Shape.{reset_device}
+use Rattle.ins2651_rules.specs.Shape.{Outcome, reset_device}
 use Rattle.ins2651_rules.specs.Modes.{receive_format, receive_enable}
 use Rattle.ins2651_rules.specs.Conditions.{listening}
 use Rattle.ins2651_rules.specs.Ranges.{in_range, settled}

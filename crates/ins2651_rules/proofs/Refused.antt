@@ -8,18 +8,18 @@ use mathlib.Core.List.{List, [], ◌∷◌}
 use lib.Dec.{ltb, leb, eqb}
 use borrow.Author.Tests.{ltb-true, ltb-false, eqb-true, eqb-false}
 use Rattle.line_rules.specs.Sending.{bit}
-use Rattle.line_rules.proofs.Choice.{either, each}
+use Rattle.line_rules.proofs.Choice.{each}
 use Rattle.ins2651_rules.specs.declared.Registers.{Registers}
 use Rattle.ins2651_rules.specs.declared.Device.{Device}
-use Rattle.ins2651_rules.specs.declared.Answer.{Answer}
-use Rattle.ins2651_rules.specs.declared.Outcome.{Outcome}
+use Rattle.ins2651_rules.specs.Shape.{Outcome, Answer}
 use Rattle.ins2651_rules.specs.Ranges.{settled}
 use Rattle.ins2651_rules.specs.Refusals.{read_refusal, mode_refusal, command_refusal, write_refusal, pins_refusal, level_refusal}
-use Rattle.ins2651_rules.specs.RegisterReads.{read_register, read}
+use Rattle.ins2651_rules.specs.RegisterReads.{read}
 use Rattle.ins2651_rules.specs.RegisterWrites.{write}
 use Rattle.ins2651_rules.specs.Pinning.{set_pins}
 use Rattle.ins2651_rules.specs.Ticks.{receive}
 use Rattle.ins2651_rules.specs.Runs.{by_call, otherwise, at_read, Call, Reset, Read, Write, SetPins, Transmit, Receive, Outputs, next, said}
+use Rattle.ins2651_rules.proofs.Done.{register_done}
 use Rattle.ins2651_rules.specs.Rows.{refusal, address_above3, no_level, no_stop, synchronous, not_operating}
 
 -- == the rows ==
@@ -107,14 +107,6 @@ levels_taken true e = refl
 levels_taken false e = absurd (omega arith)
 
 -- == what is answered ==
-
--- every register read is done
-register_done : (d : Device) (address : ℕ) → (read_register d address).refusal ≡ 0
-unfolding read_register
-register_done d address =
-    either (λ (o : Answer). o.refusal ≡ 0) (eqb address 0) refl
-    (either (λ (o : Answer). o.refusal ≡ 0) (eqb address 1) refl
-    (either (λ (o : Answer). o.refusal ≡ 0) (eqb address 2) (either (λ (o : Answer). o.refusal ≡ 0) (eqb d.registers.modes 0) refl refl) refl))
 
 -- the number that a call answers is the table's
 pub answers_refusal : (d : Device) (c : Call) → (said d c).refusal ≡ refusal d c

@@ -7,17 +7,15 @@ use mathlib.Core.List.{[], ◌∷◌}
 use lib.Dec.{eqb}
 use lib.ListN.{replicate}
 use Rattle.line_rules.specs.Sending.{bit, on}
-use Rattle.link_rules.specs.declared.Sent.{Sent}
 use Rattle.line_rules.specs.Receiving.{waiting}
 use Rattle.link_rules.specs.Parts.{no_format, no_frame, with_guard, dropped, emptied, sender_later, receiver_later}
-use Rattle.link_rules.specs.Transmitting.{mark_tick}
+use Rattle.link_rules.specs.Transmitting.{Sent, mark_tick}
 use Rattle.link_rules.specs.Hearing as link-hearing
 use Rattle.link_rules.proofs.Halves.{transmit_idle, receive_off_lem}
 use Rattle.ins2651_rules.specs.declared.Device.{Device}
-use Rattle.ins2651_rules.specs.declared.Answer.{Answer}
 use Rattle.ins2651_rules.specs.Modes.{has, format_of, send_format, receive_format, receive_enable}
 use Rattle.ins2651_rules.specs.Conditions.{mode_set, may_start, break_on, listening}
-use Rattle.ins2651_rules.specs.Shape.{with_unshown}
+use Rattle.ins2651_rules.specs.Shape.{Answer, with_unshown}
 use Rattle.ins2651_rules.specs.Ranges.{in_range, settled}
 use Rattle.ins2651_rules.specs.Refusals.{command_refusal, write_refusal}
 use Rattle.ins2651_rules.specs.RegisterReads.{read_register}

@@ -8,7 +8,7 @@ use lib.Dec.{eqb}
 use Rattle.line_rules.specs.Sending.{bit, on}
 use Rattle.line_rules.proofs.Bits.{is_one, at_most_one}
 use Rattle.ins2651_rules.specs.declared.Device.{Device}
-use Rattle.ins2651_rules.specs.declared.Answer.{Answer}
+use Rattle.ins2651_rules.specs.Shape.{Answer}
 use Rattle.ins2651_rules.specs.Modes.{has}
 use Rattle.ins2651_rules.specs.Conditions.{data_set_ready, carrier, either_mark, unread, may_write}
 use Rattle.ins2651_rules.specs.Status.{weigh, status_byte, outputs_of}

@@ -5,9 +5,8 @@ use mathlib.Core.Path.{◌≡◌, refl, sym, ap, ap₂, ◌∙◌}
 use mathlib.Core.Bool.{Bool, true, false, cond, not, ◌&&◌, ◌||◌, true≢false}
 use lib.Dec.{eqb}
 use borrow.Author.Tests.{eqb-true}
+use Rattle.std.specs.Prelude.{Option, None, Some}
 use Rattle.line_rules.specs.declared.Arrival.{Arrival}
-use Rattle.line_rules.specs.declared.Heard.{Heard}
-use Rattle.line_rules.specs.declared.Heard.TheVariants.{Nothing, Character}
 use Rattle.line_rules.specs.Sending.{on, or_set}
 use Rattle.line_rules.proofs.Bits.{on_bit}
 use Rattle.line_rules.proofs.Choice.{is_so, neither}
@@ -57,9 +56,9 @@ same_status d e s =
     (ap₂ ◌+◌ (ap₂ ◌+◌ (ap (λ (b : Bool). weigh b 4) s.mark) (ap (λ (b : Bool). weigh b 2) s.unread)) (ap (λ (b : Bool). weigh b 1) s.may_write_lem))
 
 -- where nothing arrives no flag is set
-nothing_noted : (f : Flags) (o : Bool) (h : Heard) → arrives (λ (a : Arrival). true) h ≡ false → noted f o h ≡ f
-nothing_noted f o Nothing e = refl
-nothing_noted f o (Character a) e = absurd (true≢false e)
+nothing_noted : (f : Flags) (o : Bool) (h : Option Arrival) → arrives (λ (a : Arrival). true) h ≡ false → noted f o h ≡ f
+nothing_noted f o None e = refl
+nothing_noted f o (Some a) e = absurd (true≢false e)
 
 module _ (d : Device) (k : Kept d) where
   -- n, which d has become, put together where something happened, and else showing the same
@@ -147,7 +146,7 @@ module _ (d : Device) (k : Kept d) where
   unfolding receive_tick
   heard_kept x =
       let o : Bool = (received d x).overrun in
-      let h : Heard = (received d x).heard in
+      let h : Option Arrival = (received d x).heard in
       let f : Flags = noted d.flags o h in
       if_kept (on (arrivals h)) (with_receiver d (received d x).half f) (built_kept d d.registers d.pins d.sender (received d x).half f)
       (λ e.

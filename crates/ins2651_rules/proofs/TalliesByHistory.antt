@@ -7,11 +7,10 @@ use mathlib.Core.Path.{◌≡◌, refl, sym, ap, ap₂, subst, ◌∙◌}
 use mathlib.Core.Bool.{Bool, true, cond}
 use mathlib.Core.List.{List, [], ◌∷◌}
 use lib.Dec.{eqb}
+use Rattle.std.specs.Prelude.{Option, None, Some}
 use Rattle.line_rules.specs.declared.TxC.{TxC}
 use Rattle.line_rules.specs.declared.RxC.{RxC}
 use Rattle.line_rules.specs.declared.Arrival.{Arrival}
-use Rattle.line_rules.specs.declared.Heard.{Heard}
-use Rattle.line_rules.specs.declared.Heard.TheVariants.{Nothing, Character}
 use Rattle.line_rules.specs.Sending.{on}
 use Rattle.line_rules.specs.Clocks.{ticks_on, tx_later, rx_later}
 use Rattle.line_rules.specs.Arrived.{stamped_or}
@@ -21,8 +20,7 @@ use Rattle.link_rules.specs.declared.ReceiverHalf.{ReceiverHalf}
 use Rattle.link_rules.specs.Hearing.{arrives}
 use Rattle.link_rules.proofs.Halves.{transmit_counts, start_after, receive_counts, stamp_held, stamp_now}
 use Rattle.ins2651_rules.specs.declared.Device.{Device}
-use Rattle.ins2651_rules.specs.declared.Outcome.{Outcome}
-use Rattle.ins2651_rules.specs.Shape.{reset_device}
+use Rattle.ins2651_rules.specs.Shape.{Outcome, reset_device}
 use Rattle.ins2651_rules.specs.Modes.{send_format, receive_format, receive_enable}
 use Rattle.ins2651_rules.specs.Conditions.{may_start, break_on, listening}
 use Rattle.ins2651_rules.specs.Ranges.{in_range, settled}
@@ -80,9 +78,9 @@ write_leaves d address v =
     (either (λ (r : ReceiverHalf). clocks_of d.sender r ≡ shown d) (receive_enable v) refl refl)))
 
 -- what arrived with a tick is stamped with its tally
-stamped_so : (before now : RxC) (h : Heard) → ((a : Arrival) → h ≡ Character a → a.stamp ≡ now) → stamped_or before h ≡ cond (arrives (λ (a : Arrival). true) h) now before
-stamped_so before now Nothing e = refl
-stamped_so before now (Character a) e = e a refl
+stamped_so : (before now : RxC) (h : Option Arrival) → ((a : Arrival) → h ≡ Some a → a.stamp ≡ now) → stamped_or before h ≡ cond (arrives (λ (a : Arrival). true) h) now before
+stamped_so before now None e = refl
+stamped_so before now (Some a) e = e a refl
 
 module _ (d : Device) (es : List Happened) (a : Shows d es) where
   abbrev half_told : Bool → TxC → Clocks

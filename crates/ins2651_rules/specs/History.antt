@@ -1,9 +1,7 @@
 -- Status by history: each status bit from what has happened since reset, the latest first. No field of the device is named here.
 -- Assumes nothing.
-use Rattle.std.specs.Prelude.{ℕ, ◌+◌, Bool, true, false, cond, not, ◌&&◌, ◌||◌, List, [], ◌∷◌, eqb}
+use Rattle.std.specs.Prelude.{ℕ, ◌+◌, Bool, true, false, cond, not, ◌&&◌, ◌||◌, List, [], ◌∷◌, eqb, Option, None}
 use Rattle.line_rules.specs.declared.Arrival.{Arrival}
-use Rattle.line_rules.specs.declared.Heard.{Heard}
-use Rattle.line_rules.specs.declared.Heard.TheVariants.{Nothing}
 use Rattle.line_rules.specs.Sending.{on, differ}
 use Rattle.link_rules.specs.Hearing.{arrives}
 use Rattle.ins2651_rules.specs.declared.Device.{Device}
@@ -64,17 +62,17 @@ any_levels dsr dcd = true
 -- a call that was done; what arrived with it; whether it was a frame's first tick, and whether it ended one with THR empty
 pub record Happened : Type 0 where
   pub call : Call
-  pub heard : Heard
+  pub heard : Option Arrival
   pub began : Bool
   pub drained : Bool
 
 abbrev pub plainly : Call → Happened
-plainly c = record { call = c; heard = Nothing; began = false; drained = false }
+plainly c = record { call = c; heard = None; began = false; drained = false }
 
 abbrev pub happened : Device → Call → Happened
 happened d c =
     by_call
-    (at_transmit (record { call = c; heard = Nothing; began = (sent (settled d)).began; drained = (sent (settled d)).drained })
+    (at_transmit (record { call = c; heard = None; began = (sent (settled d)).began; drained = (sent (settled d)).drained })
     (at_receive (λ x. record { call = c; heard = (received (settled d) (on x)).heard; began = false; drained = false })
     (otherwise (plainly c)))) c
 

@@ -4,8 +4,7 @@ use Rattle.std.specs.Prelude.{ℕ, Bool, cond, not, ◌||◌, eqb}
 use Rattle.line_rules.specs.Sending.{or_set}
 use Rattle.ins2651_rules.specs.declared.Pins.{Pins}
 use Rattle.ins2651_rules.specs.declared.Device.{Device}
-use Rattle.ins2651_rules.specs.declared.Outcome.{Outcome}
-use Rattle.ins2651_rules.specs.Shape.{pin_levels, with_pins, status_if, with_change, done, refused}
+use Rattle.ins2651_rules.specs.Shape.{Outcome, pin_levels, with_pins, status_if, with_change, done, refused}
 use Rattle.ins2651_rules.specs.Ranges.{settled}
 use Rattle.ins2651_rules.specs.Refusals.{pins_refusal}
 

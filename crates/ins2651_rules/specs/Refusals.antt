@@ -1,7 +1,9 @@
 -- The refusal numbers 1 to 5, each with its condition: document 01, "Refusal numbers". 0 is done. The address is checked first.
 -- Assumes nothing.
-use Rattle.std.specs.Prelude.{ℕ, ◌/◌, ◌%◌, cond, ◌&&◌, ltb, leb, eqb}
+use Rattle.std.specs.Prelude.{ℕ, ◌/◌, ◌%◌, cond, ◌&&◌, ltb, leb, eqb, Result, Ok, Err}
 use Rattle.ins2651_rules.specs.declared.Registers.{Registers}
+use Rattle.ins2651_rules.specs.declared.Refusal.{Refusal}
+use Rattle.ins2651_rules.specs.declared.Refusal.TheVariants.{NoSuchAddress, NoSuchLevel, NoStopLength, Synchronous, NotNormalOperation}
 
 -- 1: a register address above 3
 abbrev pub read_refusal : ℕ → ℕ
@@ -33,3 +35,26 @@ pins_refusal dsr dcd cts = cond (leb dsr 1 && leb dcd 1 && leb cts 1) 0 2
 -- .. or a line level
 abbrev pub level_refusal : ℕ → ℕ
 level_refusal x = cond (leb x 1) 0 2
+
+-- == as the calls answer ==
+
+-- the number of a row ..
+abbrev pub number : Refusal → ℕ
+number NoSuchAddress = 1
+number NoSuchLevel = 2
+number NoStopLength = 3
+number Synchronous = 4
+number NotNormalOperation = 5
+
+-- .. and the row of a number, of 1 to 5
+abbrev pub row : ℕ → Refusal
+row n =
+    cond (eqb n 1) NoSuchAddress
+    (cond (eqb n 2) NoSuchLevel
+    (cond (eqb n 3) NoStopLength
+    (cond (eqb n 4) Synchronous
+    NotNormalOperation)))
+
+-- a call's number with the value that it gives where it is done: that value where nothing is refused, and else the row
+abbrev pub told : {A : Type 0} → ℕ → A → Result A Refusal
+told n x = cond (eqb n 0) (Ok x) (Err (row n))

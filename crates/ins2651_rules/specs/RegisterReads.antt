@@ -4,8 +4,7 @@ use Rattle.std.specs.Prelude.{ℕ, cond, eqb}
 use Rattle.line_rules.specs.Sending.{on}
 use Rattle.link_rules.specs.Parts.{emptied}
 use Rattle.ins2651_rules.specs.declared.Device.{Device}
-use Rattle.ins2651_rules.specs.declared.Answer.{Answer}
-use Rattle.ins2651_rules.specs.Shape.{with_registers, with_flags, with_receiver, status_if, with_change, to_mode1, to_mode2, to_syn1, answered, refused_read}
+use Rattle.ins2651_rules.specs.Shape.{Answer, with_registers, with_flags, with_receiver, status_if, with_change, to_mode1, to_mode2, to_syn1, answered, refused_read}
 use Rattle.ins2651_rules.specs.Conditions.{unread}
 use Rattle.ins2651_rules.specs.Ranges.{settled}
 use Rattle.ins2651_rules.specs.Refusals.{read_refusal}

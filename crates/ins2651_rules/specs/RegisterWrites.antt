@@ -7,8 +7,7 @@ use Rattle.link_rules.specs.Parts.{loaded, dropped, emptied}
 use Rattle.ins2651_rules.specs.declared.Registers.{Registers}
 use Rattle.ins2651_rules.specs.declared.Flags.{Flags}
 use Rattle.ins2651_rules.specs.declared.Device.{Device}
-use Rattle.ins2651_rules.specs.declared.Outcome.{Outcome}
-use Rattle.ins2651_rules.specs.Shape.{with_parts, with_registers, with_sender, status_if, with_mode1, with_mode2, accepting, to_mode1, to_mode2, with_syn1, with_syn2, with_dle, to_syn1, to_syn2, to_dle, with_command, with_errors, with_empty, done, refused}
+use Rattle.ins2651_rules.specs.Shape.{Outcome, with_parts, with_registers, with_sender, status_if, with_mode1, with_mode2, accepting, to_mode1, to_mode2, with_syn1, with_syn2, with_dle, to_syn1, to_syn2, to_dle, with_command, with_errors, with_empty, done, refused}
 use Rattle.ins2651_rules.specs.Modes.{transmit_enable, receive_enable, command_clears}
 use Rattle.ins2651_rules.specs.Conditions.{vacant}
 use Rattle.ins2651_rules.specs.Ranges.{settled}

@@ -9,10 +9,23 @@ use Rattle.ins2651_rules.specs.declared.Registers.{Registers}
 use Rattle.ins2651_rules.specs.declared.Pins.{Pins}
 use Rattle.ins2651_rules.specs.declared.Flags.{Flags}
 use Rattle.ins2651_rules.specs.declared.Device.{Device}
-use Rattle.ins2651_rules.specs.declared.Answer.{Answer}
-use Rattle.ins2651_rules.specs.declared.Outcome.{Outcome}
-use Rattle.ins2651_rules.specs.declared.Ticked.{Ticked}
 use Rattle.ins2651_rules.specs.Status.{status_byte}
+
+-- what a transmit tick answers: the level sent
+pub record Ticked : Type 0 where
+  pub level : ℕ
+  pub device : Device
+
+-- what a register write, a pin call or a receive tick answers
+pub record Outcome : Type 0 where
+  pub refusal : ℕ
+  pub device : Device
+
+-- what a register read answers
+pub record Answer : Type 0 where
+  pub refusal : ℕ
+  pub value : ℕ
+  pub device : Device
 
 abbrev pub with_status : Device → ℕ → Device
 with_status d v = record { registers = d.registers; pins = d.pins; sender = d.sender; receiver = d.receiver; flags = d.flags; status = v }

@@ -1,21 +1,15 @@
 -- The two ticks: document 01, "Sending, by transmit ticks" and "Receiving, by receive ticks". What a half does at a tick stands in link_rules.
 -- Assumes nothing.
-use Rattle.std.specs.Prelude.{ℕ, Bool, true, cond, ◌&&◌, ◌||◌, eqb}
+use Rattle.std.specs.Prelude.{ℕ, Bool, true, cond, ◌&&◌, ◌||◌, eqb, Option, None, Some}
 use Rattle.line_rules.specs.declared.Arrival.{Arrival}
-use Rattle.line_rules.specs.declared.Heard.{Heard}
-use Rattle.line_rules.specs.declared.Heard.TheVariants.{Nothing, Character}
 use Rattle.line_rules.specs.Sending.{bit, on, or_set}
-use Rattle.link_rules.specs.declared.Sent.{Sent}
-use Rattle.link_rules.specs.declared.Received.{Received}
+use Rattle.link_rules.specs.Transmitting.{Sent}
 use Rattle.link_rules.specs.Transmitting as link-transmitting
-use Rattle.link_rules.specs.Hearing.{arrives}
+use Rattle.link_rules.specs.Hearing.{Received, arrives}
 use Rattle.link_rules.specs.Hearing as link-hearing
 use Rattle.ins2651_rules.specs.declared.Flags.{Flags}
 use Rattle.ins2651_rules.specs.declared.Device.{Device}
-use Rattle.ins2651_rules.specs.declared.Answer.{Answer}
-use Rattle.ins2651_rules.specs.declared.Outcome.{Outcome}
-use Rattle.ins2651_rules.specs.declared.Ticked.{Ticked}
-use Rattle.ins2651_rules.specs.Shape.{with_sender, with_receiver, status_if, with_errors, with_empty, answered, refused_read, done, refused, ticked}
+use Rattle.ins2651_rules.specs.Shape.{Ticked, Outcome, Answer, with_sender, with_receiver, status_if, with_errors, with_empty, answered, refused_read, done, refused, ticked}
 use Rattle.ins2651_rules.specs.Modes.{send_format, receive_format}
 use Rattle.ins2651_rules.specs.Conditions.{transmit_enabled, may_start, break_on, listening}
 use Rattle.ins2651_rules.specs.Ranges.{settled}
@@ -51,12 +45,12 @@ abbrev pub received : Device → Bool → Received
 received d x = link-hearing.receive d.receiver (listening d) (receive_format d.registers) x
 
 -- what arrives sets flags and clears none: a stop of 0, a register found unread, a wrong parity
-abbrev pub noted : Flags → Bool → Heard → Flags
-noted f overrun Nothing = f
-noted f overrun (Character a) = with_errors f (or_set a.framing f.framing) (or_set overrun f.overrun) (or_set a.parity f.parity)
+abbrev pub noted : Flags → Bool → Option Arrival → Flags
+noted f overrun None = f
+noted f overrun (Some a) = with_errors f (or_set a.framing f.framing) (or_set overrun f.overrun) (or_set a.parity f.parity)
 
 -- how many characters arrive, 0 or 1; a number, as computed cases ask for it at every tick
-abbrev pub arrivals : Heard → ℕ
+abbrev pub arrivals : Option Arrival → ℕ
 arrivals h = bit (arrives (λ (a : Arrival). true) h)
 
 -- the status changes where one arrives

@@ -1,12 +1,17 @@
 // The INS2651 by its sheet: the device and its parts. specs/ says what each call does to it, proofs/ what that comes to over runs of calls;
-// the calls themselves are `ins2651`'s. No code stands here, so that a wrong definition is refused without proving the calls again.
+// the calls themselves are `ins2651`'s. No code of theirs stands here, so that a wrong definition is refused without proving the calls again.
 #![tactic(auto)]
+
+ghost use Rattle.std.specs.Prelude.{◌≡◌};
+ghost use Rattle.ins2651_rules.specs.Refusals;
 
 use link_rules::{ReceiverHalf, SenderHalf};
 
+// Pointers, levels, flags and marks stay bytes in all that C lends (include/ins2651.h), where every call takes any number: no enums, no bools.
+
 // `accepted` is 1 once a mode 1 was accepted since reset; `modes` and `syns` are the two pointers.
 #[repr(C)]
-#[derive(Clone, Copy)]
+#[derive(Clone, Copy, Default)]
 pub struct Registers {
     pub mode1: u8,
     pub mode2: u8,
@@ -30,7 +35,7 @@ pub struct Pins {
 
 // The three error flags, the empty-mark and the change-mark.
 #[repr(C)]
-#[derive(Clone, Copy)]
+#[derive(Clone, Copy, Default)]
 pub struct Flags {
     pub framing: u8,
     pub overrun: u8,
@@ -51,32 +56,31 @@ pub struct Device {
     pub status: u8,
 }
 
-// What a register read answers.
-#[repr(C)]
-#[derive(Clone, Copy)]
-pub struct Answer {
-    pub refusal: u8,
-    pub value: u8,
-    pub device: Device,
+// Why a call is refused: the rows of document 01, "Refusal numbers".
+#[derive(Clone, Copy, Debug, PartialEq, Eq)]
+pub enum Refusal {
+    NoSuchAddress,
+    NoSuchLevel,
+    NoStopLength,
+    Synchronous,
+    NotNormalOperation,
 }
 
-// What a register write, a pin call or a receive tick answers.
-#[repr(C)]
-#[derive(Clone, Copy)]
-pub struct Outcome {
-    pub refusal: u8,
-    pub device: Device,
+impl From<Refusal> for u8 {
+    ghost from_gives = { λ refusal n. n ≡ Refusals.number refusal };
+
+    fn from(refusal: Refusal) -> u8 {
+        match refusal {
+            Refusal::NoSuchAddress => 1,
+            Refusal::NoSuchLevel => 2,
+            Refusal::NoStopLength => 3,
+            Refusal::Synchronous => 4,
+            Refusal::NotNormalOperation => 5,
+        }
+    }
 }
 
-// What a transmit tick answers: the level sent.
-#[repr(C)]
-#[derive(Clone, Copy)]
-pub struct Ticked {
-    pub level: u8,
-    pub device: Device,
-}
-
-// The levels of the five outputs.
+// The levels of the five outputs. (Numbers and no `bool`s: `outputs_of` of specs/Status.antt gives each as a level, 0 or 1.)
 #[repr(C)]
 #[derive(Clone, Copy)]
 pub struct OutputPins {

@@ -10,6 +10,7 @@ pub mod TwoWays
 pub mod RunsRefused
 pub mod Standing
 pub mod Waits
+pub mod Told
 pub mod RunsCount
 pub mod RunsKept
 pub mod WaitsInTime

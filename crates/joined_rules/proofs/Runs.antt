@@ -13,8 +13,7 @@ use Rattle.ins2651_rules.proofs.Settled.{settled_is, settled_in}
 use Rattle.ins2651_rules.proofs.Done.{does_receive}
 use Rattle.ins2651_rules.proofs.InRange.{transmitted_in, received_in}
 use Rattle.joined_rules.specs.declared.Pair.{Pair}
-use Rattle.joined_rules.specs.declared.Joined.{Joined}
-use Rattle.joined_rules.specs.Joining.{settled_pair, joined_tick, joined_ticks, tick, ticks}
+use Rattle.joined_rules.specs.Joining.{Joined, settled_pair, joined_tick, joined_ticks, tick, ticks}
 
 -- == ranges ==
 

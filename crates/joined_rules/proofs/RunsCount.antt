@@ -10,9 +10,8 @@ use Rattle.ins2651_rules.specs.Ranges.{in_range}
 use Rattle.ins2651_rules.specs.Stamps.{transmit_tally, receive_tally}
 use Rattle.ins2651_rules.proofs.Settled.{settled_is}
 use Rattle.joined_rules.specs.declared.Pair.{Pair}
-use Rattle.joined_rules.specs.declared.Ran.{Ran}
-use Rattle.joined_rules.specs.declared.Unit.{Unit}
-use Rattle.joined_rules.specs.Joining.{ticks, run, TalliesMoved, settled_pair, joined_ticks}
+use Rattle.line_rules.specs.declared.Unit.{Unit}
+use Rattle.joined_rules.specs.Joining.{Ran, ticks, run, TalliesMoved, settled_pair, joined_ticks}
 use Rattle.joined_rules.specs.TwoWays.{ends_of, way_of, along_both}
 use Rattle.joined_rules.specs.Waiting.{wait}
 use Rattle.joined_rules.proofs.Runs.{settled_both, settled_ticks, joined_ticks_in}

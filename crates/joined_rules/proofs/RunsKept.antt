@@ -8,10 +8,8 @@ use lib.Dec.{ltb}
 use borrow.Author.Tests.{ltb-true, ltb-false}
 use Rattle.ins2651_rules.specs.Status.{Kept}
 use Rattle.joined_rules.specs.declared.Pair.{Pair}
-use Rattle.joined_rules.specs.declared.Joined.{Joined}
-use Rattle.joined_rules.specs.declared.Ran.{Ran}
-use Rattle.joined_rules.specs.declared.Unit.{Unit}
-use Rattle.joined_rules.specs.Joining.{tick, ticks, run, settled_pair}
+use Rattle.line_rules.specs.declared.Unit.{Unit}
+use Rattle.joined_rules.specs.Joining.{Ran, Joined, tick, ticks, run, settled_pair}
 use Rattle.joined_rules.specs.Waiting.{wait}
 use Rattle.joined_rules.proofs.Runs.{BothIn, settled_both, joined_in, joined_ticks_in, tick_is, in_range_ticks, settled_ticks}
 use Rattle.joined_rules.proofs.TwoWays.{both_kept}

@@ -8,11 +8,10 @@ use mathlib.Core.Bool.{Bool, true, false}
 use lib.Dec.{ltb}
 use borrow.Author.Tests.{lt-ltb, le-ltb, ltb-true, ltb-false}
 use Rattle.joined_rules.specs.declared.Pair.{Pair}
-use Rattle.joined_rules.specs.declared.Ran.{Ran}
-use Rattle.joined_rules.specs.Joining.{run, ticks, settled_pair, joined_ticks}
+use Rattle.joined_rules.specs.Joining.{Ran, run, ticks, settled_pair, joined_ticks}
 use Rattle.joined_rules.specs.TwoWays.{along_both}
 use Rattle.joined_rules.proofs.Runs.{settled_both, settled_pair_lem, settled_ticks}
-use Rattle.joined_rules.proofs.TwoWays.{two_ways}
+use Rattle.joined_rules.proofs.TwoWays.{along_settled}
 
 pub run_refused : (p : Pair) (n : ℕ) → 65535 < n → run p n ≡ record { refusal = 16; pair = p }
 unfolding run
@@ -36,7 +35,7 @@ run_of_none p = run_done p 0 (omega arith)
 
 -- .. and of some: a run of each way of the pair as it is taken
 pub run_is_two_ways : (p : Pair) (n : ℕ) → 0 < n → n ≤ 65535 → run p n ≡ record { refusal = 0; pair = along_both n (settled_pair p) }
-run_is_two_ways p n z h = run_done p n h ∙ ap (λ (q : Pair). record { refusal = 0; pair = q }) (sym (settled_ticks n p z) ∙ two_ways n (settled_pair p) (settled_both p))
+run_is_two_ways p n z h = run_done p n h ∙ ap (λ (q : Pair). record { refusal = 0; pair = q }) (sym (along_settled n p z))
 
 -- .. each device as one call of the chip would take it, by itself
 pub run_settles : (p : Pair) (n : ℕ) → 0 < n → n ≤ 65535 → run p n ≡ run (settled_pair p) n

@@ -26,8 +26,7 @@ use Rattle.ins2651_rules.proofs.StatusKept.{kept_is, unshown_kept}
 use Rattle.ins2651_rules.proofs.InRange.{parts}
 use Rattle.ins2651_rules.proofs.RestsInRange.{rests_in_range_lem}
 use Rattle.joined_rules.specs.declared.Pair.{Pair}
-use Rattle.joined_rules.specs.declared.Joined.{Joined}
-use Rattle.joined_rules.specs.Joining.{joined_tick, tick, ticks}
+use Rattle.joined_rules.specs.Joining.{Joined, joined_tick, tick, ticks}
 use Rattle.joined_rules.specs.TwoWays.{ends_of, way_of, with_ways, along_both, pair_later, stands}
 use Rattle.joined_rules.proofs.Runs.{BothIn, settled_pair_lem, tick_is, in_range_ticks}
 use Rattle.joined_rules.proofs.TwoWays.{both_kept, both_move, two_ways}

@@ -1,14 +1,19 @@
 -- A run of the pair is a run of each way: a joined tick is one tick of both, and leaves what they go by.
 -- Assumes nothing.
-use Prim.Native.Nat.{ℕ, zero, suc}
+use Prim.Native.Nat.{ℕ, zero, suc, ◌<◌}
 use mathlib.Core.Path.{◌≡◌, refl, sym, ap, ap₂, subst, ◌∙◌}
-use mathlib.Core.Bool.{Bool}
-use Rattle.line_rules.specs.declared.Heard.{Heard}
-use Rattle.line_rules.specs.declared.Heard.TheVariants.{Nothing, Character}
+use mathlib.Core.Bool.{Bool, false}
+use Rattle.std.specs.Prelude.{Option, None, Some}
+use Rattle.line_rules.specs.declared.Arrival.{Arrival}
 use Rattle.line_rules.specs.Sending.{on}
 use Rattle.line_rules.proofs.Bits.{on_bit}
+use Rattle.way_rules.specs.declared.Ends.{Ends}
+use Rattle.way_rules.specs.declared.Way.{Way}
+use Rattle.way_rules.specs.Leap.{Moved}
 use Rattle.way_rules.specs.Along as along
 use Rattle.way_rules.specs.Along.{way_tick}
+use Rattle.way_rules.specs.Until.{until_unread}
+use Rattle.way_rules.proofs.Until.{unwatched}
 use Rattle.ins2651_rules.specs.declared.Flags.{Flags}
 use Rattle.ins2651_rules.specs.declared.Device.{Device}
 use Rattle.ins2651_rules.specs.Shape.{status_kept, with_parts, with_errors}
@@ -17,15 +22,15 @@ use Rattle.ins2651_rules.specs.Ticks.{sent, transmit_tick, received, noted, rece
 use Rattle.ins2651_rules.proofs.StatusKept.{kept_is, sent_kept, heard_kept}
 use Rattle.ins2651_rules.proofs.InRange.{status_kept_lem}
 use Rattle.joined_rules.specs.declared.Pair.{Pair}
-use Rattle.joined_rules.specs.Joining.{joined_tick, joined_ticks}
-use Rattle.joined_rules.specs.TwoWays.{ends_of, way_of, with_ends, with_ways, along_both}
-use Rattle.joined_rules.proofs.Runs.{BothIn, joined_in}
+use Rattle.joined_rules.specs.Joining.{settled_pair, joined_tick, joined_ticks, ticks}
+use Rattle.joined_rules.specs.TwoWays.{ends_of, way_of, along_way, with_sent, with_heard, with_ends, with_ways, along_both}
+use Rattle.joined_rules.proofs.Runs.{BothIn, settled_both, joined_in, settled_ticks}
 
 -- what arrives sets the three flags of the device as it sets those of the way
-notes : (f : Flags) (o : Bool) (h : Heard) → let x = along.noted (record { framing = f.framing; overrun = f.overrun; parity = f.parity }) o h in
+notes : (f : Flags) (o : Bool) (h : Option Arrival) → let x = along.noted (record { framing = f.framing; overrun = f.overrun; parity = f.parity }) o h in
     noted f o h ≡ with_errors f x.framing x.overrun x.parity
-notes f o Nothing = refl
-notes f o (Character a) = refl
+notes f o None = refl
+notes f o (Some a) = refl
 
 -- one end of a joined tick: the way out moves its sender, the way back its receiver; the ticks keep its status byte, and so it is the one built
 end_moves : (d e : Device) → Kept d → receive_tick (transmit_tick d).device (on (transmit_tick e).level) ≡ with_ends d (way_tick (ends_of d e) (way_of d e)) (way_tick (ends_of e d) (way_of e d))
@@ -56,3 +61,25 @@ two_ways (suc n) p h =
     ap (joined_ticks n) (both_move p h)
     ∙ two_ways n (with_ways p (way_tick (ends_of p.a p.b) (way_of p.a p.b)) (way_tick (ends_of p.b p.a) (way_of p.b p.a)))
     (subst BothIn (both_move p h) (joined_in p h))
+
+-- .. of any pair, as it is taken
+pub along_settled : (n : ℕ) (p : Pair) → 0 < n → along_both n (settled_pair p) ≡ ticks n p
+along_settled n p z = sym (two_ways n (settled_pair p) (settled_both p)) ∙ settled_ticks n p z
+
+-- a run of a way does all of its ticks
+pub until_all : (e : Ends) (n : ℕ) (w : Way) → until_unread e false n w ≡ n
+until_all e n w = ap (λ (m : Moved). m.ticks) (unwatched e n w)
+
+-- one way and then the other, from the devices that the first leaves, are both
+module _ (k : ℕ) (d e : Device) where
+  abbrev out : Device
+  out = with_sent d (along_way k d e)
+
+  abbrev in_ : Device
+  in_ = with_heard e (along_way k d e)
+
+  pub heard_after : (m : ℕ) (d' e' : Device) → d' ≡ out → e' ≡ in_ → m ≡ until_unread (ends_of e' d') false k (way_of e' d') → with_heard d' (along_way m e' d') ≡ with_ends d (along_way k d e) (along_way k e d)
+  heard_after m d' e' x y h = ap₂ (λ (n : ℕ) (f : Device × Device). with_heard f.0 (along_way n f.1 f.0)) (h ∙ until_all (ends_of e' d') k (way_of e' d')) (λ i. (x i, y i))
+
+  pub sent_after : (m : ℕ) (d' e' : Device) → d' ≡ out → e' ≡ in_ → m ≡ until_unread (ends_of e' d') false k (way_of e' d') → with_sent e' (along_way m e' d') ≡ with_ends e (along_way k e d) (along_way k d e)
+  sent_after m d' e' x y h = ap₂ (λ (n : ℕ) (f : Device × Device). with_sent f.1 (along_way n f.1 f.0)) (h ∙ until_all (ends_of e' d') k (way_of e' d')) (λ i. (x i, y i))

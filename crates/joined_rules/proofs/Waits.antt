@@ -7,7 +7,7 @@ use native.Mathlib.Omega.{arith}
 use mathlib.Core.Path.{◌≡◌, refl, ap, ap₂, sym, ◌∙◌}
 use mathlib.Core.Bool.{Bool, true, false, cond, ◌||◌}
 use lib.Dec.{ltb, eqb}
-use borrow.Author.Tests.{lt-ltb, le-ltb, ltb-true, ltb-false, eqb-true, eqb-false}
+use borrow.Author.Tests.{lt-ltb, le-ltb, ltb-true, ltb-false, eqb-false}
 use Rattle.line_rules.specs.Sending.{on}
 use Rattle.line_rules.proofs.Choice.{each, neither}
 use Rattle.way_rules.specs.Along.{way_ticks}
@@ -23,13 +23,12 @@ use Rattle.ins2651_ends.specs.OnALine as chip
 use Rattle.ins2651_ends.proofs.Calls.{unread_is, unread_taken}
 use Rattle.delivery.specs.Joined.{Side, A, B}
 use Rattle.joined_rules.specs.declared.Pair.{Pair}
-use Rattle.joined_rules.specs.declared.Unit.{Unit}
-use Rattle.joined_rules.specs.declared.Unit.TheVariants as unit
-use Rattle.joined_rules.specs.declared.Waited.{Waited}
+use Rattle.line_rules.specs.declared.Unit.{Unit}
+use Rattle.line_rules.specs.declared.Unit.TheVariants as unit
 use Rattle.joined_rules.specs.Joining.{ticks, run, settled_pair, joined_ticks}
 use Rattle.joined_rules.specs.Bench.{device_at}
 use Rattle.joined_rules.specs.TwoWays.{along_both, pair_later, stands}
-use Rattle.joined_rules.specs.Waiting.{side_of, unread, ticks_until, unspent, waited, wait, joined_until, waited_on, ends_to, way_to, waited_along}
+use Rattle.joined_rules.specs.Waiting.{Waited, side_of, unread, ticks_until, unspent, waited, wait, joined_until, waited_on, ends_to, way_to, waited_along}
 use Rattle.joined_rules.proofs.Runs.{BothIn, settled_both, settled_ticks, joined_ticks_in}
 use Rattle.joined_rules.proofs.TwoWays.{two_ways}
 use Rattle.joined_rules.proofs.RunsRefused.{run_done}
@@ -144,19 +143,8 @@ module _ (p : Pair) (i : BothIn p) (u : Unit) where
       same_below limit (λ k. on (device_at (side_of u) (joined_ticks k p)).receiver.unread) (λ k. way.unread (way_ticks (ends_to u p) k (way_to u p))) by_way in
       ap₂ (λ (k : ℕ) (q : Pair). record { refusal = 0; count = k; pair = q }) same (two_ways (joined_until p u limit) p i ∙ ap (λ (k : ℕ). along_both k p) same)
 
--- .. as the code has them
-pub waits_on : (p : Pair) (u : Unit) (limit k : ℕ) (q : Pair) → k ≡ until_unread (ends_to u p) true limit (way_to u p) → q ≡ along_both k p → record { refusal = 0; count = k; pair = q } ≡ waited_along p u limit
-waits_on p u limit k q e h = ap₂ (λ (k : ℕ) (q : Pair). record { refusal = 0; count = k; pair = q }) e (h ∙ ap (λ (k : ℕ). along_both k p) e)
-
--- by the code's test, u being whether one is there
+-- by the code's test, u being whether one is there: a wait goes by the ways of the pair as it is taken
 module _ (p : Pair) (unit : Unit) (limit : ℕ) (u : Bool) (there : u ≡ unread unit p) where
-  pub none_spent : (u || eqb limit 0) ≡ true → waited p unit limit ≡ unspent p 0
-  none_spent h = go u refl
-    where
-      go : (b : Bool) → u ≡ b → waited p unit limit ≡ unspent p 0
-      go true e = wait_there p unit limit (sym there ∙ e)
-      go false e = wait_none p unit limit (eqb-true limit 0 (rw e at h))
-
   pub some_waited : (u || eqb limit 0) ≡ false → waited p unit limit ≡ waited_along (settled_pair p) unit limit
   some_waited h =
       let n = neither u (eqb limit 0) h in

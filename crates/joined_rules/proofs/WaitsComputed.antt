@@ -23,13 +23,12 @@ use Rattle.ins2651_rules.specs.Ticks.{transmit_tick, transmit, receive_tick, rec
 use Rattle.ins2651_rules.specs.Runs.{Write}
 use Rattle.delivery.specs.Joined.{A}
 use Rattle.joined_rules.specs.declared.Pair.{Pair}
-use Rattle.joined_rules.specs.declared.Unit.{Unit}
-use Rattle.joined_rules.specs.declared.Unit.TheVariants as unit
-use Rattle.joined_rules.specs.declared.Waited.{Waited}
+use Rattle.line_rules.specs.declared.Unit.{Unit}
+use Rattle.line_rules.specs.declared.Unit.TheVariants as unit
 use Rattle.joined_rules.specs.Joining.{tick}
 use Rattle.joined_rules.specs.Bench.{Step, At, all_moved, just_reset}
 use Rattle.joined_rules.specs.Demand3.{sends, fresh, all_allowed}
-use Rattle.joined_rules.specs.Waiting.{wait, StopsInTime}
+use Rattle.joined_rules.specs.Waiting.{Waited, wait, StopsInTime}
 use Rattle.joined_rules.proofs.Sequence.{sequences, sequence_sets_up}
 use Rattle.joined_rules.proofs.Concrete.{one_stop, two_stops, one_stop_proper, two_stops_proper, stops_agree, after}
 use Rattle.joined_rules.proofs.WaitsInTime.{demand_3_waits}

@@ -21,8 +21,8 @@ use Rattle.delivery.specs.Joined.{Side, A, B}
 use Rattle.delivery.proofs.Lists.{allowed_append, runs_append, written_by_now}
 use Rattle.delivery.proofs.Awaited.{quiet_allowed, brings_one}
 use Rattle.joined_rules.specs.declared.Pair.{Pair}
-use Rattle.joined_rules.specs.declared.Unit.{Unit}
-use Rattle.joined_rules.specs.declared.Unit.TheVariants as unit
+use Rattle.line_rules.specs.declared.Unit.{Unit}
+use Rattle.line_rules.specs.declared.Unit.TheVariants as unit
 use Rattle.joined_rules.specs.Joining.{tick, ticks}
 use Rattle.joined_rules.specs.Bench.{device_at, Step, Tick, all_moved, way_from}
 use Rattle.joined_rules.specs.Demand3.{Settings, settings_at, Proper, sends, Agree, FromReset, FreshlySetUp, fresh, all_allowed, Open}

@@ -3,13 +3,23 @@
 use Rattle.std.specs.Prelude.{ℕ, zero, suc, ◌≡◌, cond, ltb}
 use Rattle.line_rules.specs.Sending.{on}
 use Rattle.line_rules.specs.Clocks.{tx_later, rx_later}
-use Rattle.ins2651_rules.specs.declared.Ticked.{Ticked}
+use Rattle.ins2651_rules.specs.Shape.{Ticked}
 use Rattle.ins2651_rules.specs.Ranges.{settled}
 use Rattle.ins2651_rules.specs.Ticks.{transmit_tick, transmit, receive_tick, receive}
 use Rattle.ins2651_rules.specs.Stamps.{transmit_tally, receive_tally}
 use Rattle.joined_rules.specs.declared.Pair.{Pair}
-use Rattle.joined_rules.specs.declared.Joined.{Joined}
-use Rattle.joined_rules.specs.declared.Ran.{Ran}
+use Rattle.joined_rules.specs.declared.Levels.{Levels}
+
+-- what a run of joined ticks answers: its refusal, 0 where it is done, and the pair after it
+pub record Ran : Type 0 where
+  pub refusal : ℕ
+  pub pair : Pair
+
+-- what a joined tick answers: the pair after it, and the level that each device sent
+pub record Joined : Type 0 where
+  pub pair : Pair
+  pub a : ℕ
+  pub b : ℕ
 
 -- the call, by the chip's own calls; it is never refused
 unfoldable pub tick : Pair → Joined
@@ -22,6 +32,10 @@ tick p =
       a = (transmit p.a).level;
       b = (transmit p.b).level;
     }
+
+-- the levels that it tells
+abbrev pub levels : Joined → Levels
+levels j = record { a = j.a; b = j.b }
 
 -- n of them, one after another
 abbrev pub ticks : ℕ → Pair → Pair

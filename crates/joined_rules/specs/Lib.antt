@@ -1,3 +1,4 @@
+pub mod Refused
 pub mod Joining
 pub mod Rounds
 pub mod Bench

@@ -1,7 +1,7 @@
 -- Two devices ticked in rounds, each with the level that the other sent last: how a host that does both ticks of a device in one call runs a line.
 -- Assumes nothing.
 use Rattle.std.specs.Prelude.{ℕ, zero, suc}
-use Rattle.ins2651_rules.specs.declared.Answer.{Answer}
+use Rattle.ins2651_rules.specs.Shape.{Answer}
 use Rattle.ins2651_rules.specs.Ticks as chip
 use Rattle.joined_rules.specs.declared.Pair.{Pair}
 

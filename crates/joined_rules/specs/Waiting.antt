@@ -11,12 +11,17 @@ use Rattle.delivery.specs.OneWay.{Logged}
 use Rattle.delivery.specs.Promise.{L, D, Awaited}
 use Rattle.delivery.specs.Joined.{Side, A, B, other}
 use Rattle.joined_rules.specs.declared.Pair.{Pair}
-use Rattle.joined_rules.specs.declared.Unit.{Unit}
-use Rattle.joined_rules.specs.declared.Unit.TheVariants as unit
-use Rattle.joined_rules.specs.declared.Waited.{Waited}
+use Rattle.line_rules.specs.declared.Unit.{Unit}
+use Rattle.line_rules.specs.declared.Unit.TheVariants as unit
 use Rattle.joined_rules.specs.Joining.{ticks, joined_ticks}
 use Rattle.joined_rules.specs.Bench.{device_at}
 use Rattle.joined_rules.specs.TwoWays.{ends_of, way_of, along_both}
+
+-- what a wait answers: its refusal, 0 where it is done, the joined ticks that it spent, and the pair after them
+pub record Waited : Type 0 where
+  pub refusal : ℕ
+  pub count : ℕ
+  pub pair : Pair
 
 -- the side of the line at which a unit stands
 abbrev pub side_of : Unit → Side

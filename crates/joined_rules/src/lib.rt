@@ -1,9 +1,13 @@
 // Two devices joined by a line, by document 01, "Receiving, by receive ticks", and requests P9 and P12. specs/ says what a joined tick, a run
-// and a wait are and what demand 3 promises, proofs/ that it holds; the calls themselves are `joined`'s. No code stands here, so that a wrong definition or statement is refused
-// without proving the calls again.
+// and a wait are and what demand 3 promises, proofs/ that it holds; the calls themselves are `joined`'s. No code stands here but that of the
+// types, so that a wrong definition or statement is refused without proving the calls again.
 #![tactic(auto)]
 
+ghost use Rattle.std.specs.Prelude.{◌≡◌};
+ghost use Rattle.joined_rules.specs.Refused.{number};
+
 use ins2651_rules::Device;
+pub use line_rules::Unit;
 
 // The device `a` at one end of the line and `b` at the other.
 #[repr(C)]
@@ -13,35 +17,28 @@ pub struct Pair {
     pub b: Device,
 }
 
-// What a joined tick answers: the pair after it, and the level that each device sent.
-#[repr(C)]
-#[derive(Clone, Copy)]
-pub struct Joined {
-    pub pair: Pair,
+// The levels that both devices sent. (Numbers and no `bool`s: `levels` of specs/Joining.antt gives each as a level, 0 or 1.)
+#[derive(Clone, Copy, Debug, PartialEq, Eq)]
+pub struct Levels {
     pub a: u8,
     pub b: u8,
 }
 
-// What a run of joined ticks answers: its refusal, 0 where it is done, and the pair after it.
-#[repr(C)]
-#[derive(Clone, Copy)]
-pub struct Ran {
-    pub refusal: u8,
-    pub pair: Pair,
+// Why a call is refused: it is to do more than 65535 joined ticks.
+#[derive(Clone, Copy, Debug, PartialEq, Eq)]
+pub enum TooLong {
+    Run,
+    Wait,
 }
 
-// The unit at one end of the line, by its name.
-#[derive(Clone, Copy)]
-pub enum Unit {
-    A,
-    B,
-}
+// Document 01's number.
+impl From<TooLong> for u8 {
+    ghost from_gives = { λ call n. n ≡ number call };
 
-// What a wait answers: its refusal, 0 where it is done, the joined ticks that it spent, and the pair after them.
-#[repr(C)]
-#[derive(Clone, Copy)]
-pub struct Waited {
-    pub refusal: u8,
-    pub count: u16,
-    pub pair: Pair,
+    fn from(call: TooLong) -> u8 {
+        match call {
+            TooLong::Run => 16,
+            TooLong::Wait => 21,
+        }
+    }
 }

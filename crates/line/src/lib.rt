@@ -2,37 +2,19 @@
 // Every call takes any number in any field: `line_rules` says what each answers, inside the range and outside.
 #![tactic(auto)]
 
-ghost use Rattle.std.specs.Prelude.{◌≡◌, suc, ◌-◌, ◌*◌, ◌/◌, ◌%◌, ◌^◌, ◌<◌, ◌≤◌, ◌==◌};
+ghost use Rattle.std.specs.Prelude.{◌≡◌, suc, ◌+◌, ◌-◌, ◌*◌, ◌/◌, ◌%◌, ◌^◌, ◌<◌, ◌≤◌};
 ghost use Rattle.line_rules.specs.Sending;
-ghost use Rattle.line_rules.specs.Sending.{bit, parity_bits, before_stop, frame_length, stop_sample, parity_bit, bit_at, data_level, parity_level, or_set};
+ghost use Rattle.line_rules.specs.Sending.{parity_bits, before_stop, frame_length, stop_sample, parity_bit, bit_at, parity_level, or_set};
 ghost use Rattle.line_rules.specs.Clocks.{tx_later, rx_later};
-ghost use Rattle.line_rules.specs.Range.{is_factor, is_stop, is_length, in_range};
+ghost use Rattle.line_rules.specs.Range.{is_stop, in_range};
 ghost use Rattle.line_rules.specs.Receiving;
-ghost use Rattle.line_rules.specs.Receiving.{at_rest, after_mark, look_next, with_bit, start_look, parity_look, stop_look, look_at};
+ghost use Rattle.line_rules.specs.Receiving.{at_rest, after_mark, assembling, look_next, with_bit, start_look, parity_look, stop_look, look_at};
 
-use line_rules::{Arrival, Format, Heard, Receiver, RxC, Sampled, TxC};
+use line_rules::{Arrival, Format, Receiver, RxC, Sampled, TxC};
 
 mod parity;
 
-fn wide(x: u8) -> u16
-    ensures { (result ≡ x) × (result ≤ 255) }
-{
-    x as u16
-}
-
-fn long(x: u16) -> u32
-    ensures { result ≡ x }
-{
-    x as u32
-}
-
-pub fn number(b: bool) -> u8
-    ensures { (result ≡ bit b) × (result ≤ 1) }
-{
-    if b { 1 } else { 0 }
-}
-
-// A mark that is set where t is so, and otherwise stays as it is.
+// A mark that is set where t is so, and otherwise stays as it is. (x may be any number, so that no `|` of the library does this.)
 pub fn or_set(t: bool, x: u8) -> u8
     ensures { result ≡ or_set t x }
 {
@@ -41,54 +23,42 @@ pub fn or_set(t: bool, x: u8) -> u8
 
 // == the tallies (P4) ==
 
-// A transmit tally k ticks later; it wraps.
+// A transmit tally k ticks later; it wraps. (Two functions, as the clocks are two types that are never mixed: a trait over both would have
+// the same two bodies in two impls.)
 pub fn tx_later(t: TxC, k: u16) -> TxC
     ensures { result ≡ tx_later k t }
 {
-    TxC(std::num::wrapping_add_u32(t.0, k as u32))
+    TxC(t.0.wrapping_add(u32::from(k)))
 }
 
 // A receive tally k ticks later; it wraps.
 pub fn rx_later(t: RxC, k: u16) -> RxC
     ensures { result ≡ rx_later k t }
 {
-    RxC(std::num::wrapping_add_u32(t.0, k as u32))
+    RxC(t.0.wrapping_add(u32::from(k)))
 }
 
 // == formats ==
 
-// Whether a format is one of document 01. By branches, here and in what asks this, which take less time than as many bools put together.
+// Whether a format is one of document 01: no test is made behind the first that fails.
+#[tactic(auto, unfolding(line_rules::specs::Range::in_range))]
 pub fn in_range(f: Format) -> bool
     ensures { result ≡ in_range f }
 {
-    if is_factor(f.factor) {
-        let bits = is_length(f.length) & (f.parity <= 1) & (f.even <= 1);
-        if bits {
-            return is_stop(f);
-        }
-        return false;
-    }
-    false
+    matches!(f.factor, 1 | 16 | 64)
+        && (5..=8).contains(&f.length)
+        && f.parity <= 1
+        && f.even <= 1
+        && is_stop(f)
 }
 
-fn is_factor(x: u8) -> bool
-    ensures { result ≡ is_factor x }
-{
-    (x == 1) | (x == 16) | (x == 64)
-}
-
-fn is_length(x: u8) -> bool
-    ensures { result ≡ is_length x }
-{
-    (5 <= x) & (x <= 8)
-}
-
+// 1, 1½ or 2 bits.
 fn is_stop(f: Format) -> bool
     ensures { result ≡ is_stop f }
 {
-    let one = wide(f.factor);
-    let s = wide(f.stop);
-    (s == one) | (s == one + wide(half(f))) | (s == 2 * one)
+    let one = u16::from(f.factor);
+    let stop = u16::from(f.stop);
+    stop == one || stop == one + u16::from(half(f)) || stop == 2 * one
 }
 
 // h: half a bit, rounded down.
@@ -102,98 +72,76 @@ pub fn half(f: Format) -> u8
 pub fn parity_bits(f: Format) -> u16
     ensures { (result ≡ parity_bits f) × (result ≤ 1) }
 {
-    wide(number(0 < f.parity))
-}
-
-// F: the ticks before the data.
-fn before_data(f: Format) -> u32
-    ensures { result ≡ f.factor }
-{
-    long(wide(f.factor))
+    u16::from(0 < f.parity)
 }
 
 // F(1+n): the ticks before the parity.
 fn before_parity(f: Format) -> u32
     ensures { result ≡ f.factor * suc f.length }
 {
-    let bits = wide(f.length) + 1;
-    long(wide(f.factor)) * long(bits)
+    u32::from(f.factor) * (u32::from(f.length) + 1)
 }
 
 // F(1+n+p): the ticks before the stop.
 fn before_stop(f: Format) -> u32
     ensures { (result ≡ before_stop f) × (result ≤ 65535) }
 {
-    let bits = wide(f.length) + parity_bits(f) + 1;
-    long(wide(f.factor)) * long(bits)
+    u32::from(f.factor) * (u32::from(f.length) + u32::from(parity_bits(f)) + 1)
 }
 
 // L: how many ticks a frame lasts.
 pub fn frame_length(f: Format) -> u32
     ensures { result ≡ frame_length f }
 {
-    before_stop(f) + long(wide(f.stop))
+    before_stop(f) + u32::from(f.stop)
 }
 
 // D: how many ticks after a start bit's first sample its stop sample is taken.
 pub fn stop_sample(f: Format) -> u32
     ensures { result ≡ stop_sample f }
 {
-    long(wide(half(f))) + before_stop(f)
+    u32::from(half(f)) + before_stop(f)
+}
+
+// The lowest k bits of a byte. (By a test: where `checked_shl` has no answer the byte itself is the answer, so a choice stays.)
+#[tactic(auto, using(line_rules::proofs::Bytes::cut_whole))]
+pub fn low_bits(c: u8, k: u16) -> u8
+    ensures { result ≡ c % 2 ^ k }
+{
+    if 8 <= k {
+        return c;
+    }
+    c % (1 << k)
 }
 
 // A byte without the bits that the length leaves no room for.
 pub fn cut(f: Format, c: u8) -> u8
     ensures { result ≡ Sending.cut f c }
 {
-    let n = f.length;
-    if 8 <= n {
-        return c;
-    }
-    c % (1 << n)
+    low_bits(c, u16::from(f.length))
 }
 
 // The parity bit that goes with a byte.
+#[tactic(auto, unfolding(line_rules::specs::Sending::parity_bit))]
 pub fn parity_bit(f: Format, c: u8) -> bool
     ensures { result ≡ parity_bit f c }
 {
-    if 0 < f.even {
-        return parity::odd(c);
-    }
-    !parity::odd(c)
+    parity::odd(c) == (0 < f.even)
 }
 
-// Bit i of a byte.
+// Bit i of a byte: data bit i of a character.
+#[tactic(auto, using(line_rules::proofs::Bytes::no_bit))]
 fn bit_at(c: u8, i: u16) -> bool
     ensures { result ≡ bit_at c i }
 {
-    if i < 8 {
-        return (c >> i) % 2 == 1;
-    }
-    false
-}
-
-// Data bit i of a character: the lowest first.
-fn data_level(c: u8, i: u16) -> bool
-    ensures { result ≡ data_level c i }
-{
-    bit_at(c, i)
+    i < 8 && (c >> i) % 2 == 1
 }
 
 // The parity of the bits that are sent.
 fn parity_level(f: Format, c: u8) -> bool
     ensures { result ≡ parity_level f c }
 {
-    let kept = cut(f, c);
-    parity_bit(f, kept)
-}
-
-// A factor of 0 is out of range: by the definition, where `place / 0` is 0, every place is then in the start. The boundaries
-// alone, all 0, would answer the stop.
-fn start_never_ends(f: Format) -> bool
-    ensures { result ≡ (f.factor == 0) }
-{
-    f.factor == 0
+    parity_bit(f, cut(f, c))
 }
 
 // Which data bit a place behind the start is in, counted from 0: each lasts F ticks.
@@ -201,7 +149,7 @@ fn data_bit(f: Format, place: u16) -> u16
     requires { (0 < f.factor) × (f.factor ≤ place) }
     ensures { result ≡ (place - f.factor) / f.factor }
 {
-    let ticks = wide(f.factor);
+    let ticks = u16::from(f.factor);
     (place - ticks) / ticks
 }
 
@@ -209,12 +157,16 @@ fn data_bit(f: Format, place: u16) -> u16
 pub fn level(f: Format, c: u8, place: u16) -> bool
     ensures { result ≡ Sending.level f c place }
 {
-    let at = long(place); // as wide as the boundaries
-    if start_never_ends(f) | (at < before_data(f)) {
+    // A factor of 0 is out of range: by the definition, where `place / 0` is 0, every place is then in the start. The boundaries
+    // alone, all 0, would answer the stop.
+    let at = u32::from(place); // as wide as the boundaries
+    let before_data = u32::from(f.factor);
+    let start_never_ends = before_data == 0;
+    if start_never_ends | (at < before_data) {
         return false;
     }
     if at < before_parity(f) {
-        return data_level(c, data_bit(f, place));
+        return bit_at(c, data_bit(f, place));
     }
     if at < before_stop(f) {
         return parity_level(f, c);
@@ -223,17 +175,15 @@ pub fn level(f: Format, c: u8, place: u16) -> bool
 }
 
 // == the receiver ==
+// (f, r, x, now) stay four in `look_at`, `under` and `sample`: one each of what a look needs, which nothing else holds together.
 
 // No character is under way.
 fn at_rest(phase: u8) -> Receiver
     ensures { result ≡ at_rest phase }
 {
     Receiver {
-        phase: phase,
-        countdown: 0,
-        value: 0,
-        wrong: 0,
-        look: 0,
+        phase,
+        ..Receiver::default()
     }
 }
 
@@ -244,32 +194,21 @@ pub fn waiting() -> Receiver
     at_rest(0)
 }
 
-fn searching() -> Receiver
-    ensures { result ≡ Receiving.searching }
-{
-    at_rest(1)
-}
-
 // A 1 is the mark that starts a search.
 fn after_mark(x: bool) -> Receiver
     ensures { result ≡ after_mark x }
 {
-    if x {
-        return searching();
-    }
-    waiting()
+    at_rest(u8::from(x))
 }
 
-// A character is under way: c ticks before look number m, the value so far, and 1 where its parity was wrong.
-fn assembling(c: u8, m: u16, v: u8, w: u8) -> Receiver
-    ensures { result ≡ Receiving.assembling c m v w }
+// A 0 is found: a character is under way, whose look at the start comes h ticks on.
+fn found(f: Format) -> Receiver
+    ensures { result ≡ assembling (Sending.half f) 0 0 0 }
 {
     Receiver {
         phase: 2,
-        countdown: c,
-        value: v,
-        wrong: w,
-        look: m,
+        countdown: half(f),
+        ..Receiver::default()
     }
 }
 
@@ -279,7 +218,7 @@ fn quiet(r: Receiver) -> Sampled
 {
     Sampled {
         next: r,
-        heard: Heard::Nothing,
+        heard: None,
     }
 }
 
@@ -287,27 +226,26 @@ fn quiet(r: Receiver) -> Sampled
 pub fn gap(f: Format) -> u8
     ensures { result ≡ f.factor - 1 }
 {
-    if f.factor == 0 {
-        return 0;
-    }
-    f.factor - 1
+    f.factor.saturating_sub(1)
 }
 
-// On to the next look, F ticks later.
-fn look_next(f: Format, m: u16, v: u8, w: u8) -> Sampled
-    ensures { result ≡ look_next f m v w }
+// On to the next look, F ticks later, with the value and the fault so far.
+fn look_next(f: Format, r: Receiver) -> Sampled
+    ensures { result ≡ look_next f r.look r.value r.wrong }
 {
-    quiet(assembling(gap(f), m, v, w))
+    quiet(Receiver {
+        phase: 2,
+        countdown: gap(f),
+        ..r
+    })
 }
 
 // 2 to the i, in a byte.
+#[tactic(auto, using(line_rules::proofs::Bytes::no_weight))]
 fn weight(i: u16) -> u8
     ensures { result ≡ 2 ^ i % 256 }
 {
-    if i < 8 {
-        return 1 << i;
-    }
-    0
+    1u8.checked_shl(u32::from(i)).unwrap_or(0)
 }
 
 // A value with its data bit i.
@@ -315,9 +253,16 @@ pub fn with_bit(v: u8, i: u16, x: bool) -> u8
     ensures { result ≡ with_bit v i x }
 {
     if x {
-        return std::num::wrapping_add_u8(v, weight(i));
+        return v.wrapping_add(weight(i));
     }
     v
+}
+
+// n + p + 1, the number of the look at the stop.
+pub fn last_look(f: Format) -> u16
+    ensures { (result ≡ suc (f.length + Sending.parity_bits f)) × (result ≤ 257) }
+{
+    u16::from(f.length) + parity_bits(f) + 1
 }
 
 // The start again: a 1 is a false start, and serves as the mark.
@@ -327,73 +272,95 @@ fn start_look(f: Format, x: bool) -> Sampled
     if x {
         return quiet(after_mark(true));
     }
-    look_next(f, 1, 0, 0)
+    look_next(
+        f,
+        Receiver {
+            look: 1,
+            ..Receiver::default()
+        },
+    )
 }
 
 // The parity, against the value so far.
-fn parity_look(f: Format, m: u16, v: u8, x: bool) -> Sampled
-    ensures { result ≡ parity_look f m v x }
+fn parity_look(f: Format, r: Receiver, x: bool) -> Sampled
+    requires { r.look ≤ 256 }
+    ensures { result ≡ parity_look f (r.look + 1) r.value x }
 {
-    let wrong = x != parity_bit(f, v);
-    look_next(f, m, v, number(wrong))
+    let wrong = x != parity_bit(f, r.value);
+    look_next(
+        f,
+        Receiver {
+            look: r.look + 1,
+            wrong: u8::from(wrong),
+            ..r
+        },
+    )
 }
 
 // The stop: the character arrives, stamped with the receive tally now. After a 0 the line must come back to 1 before the next search.
-fn stop_look(v: u8, w: u8, x: bool, now: RxC) -> Sampled
-    ensures { result ≡ stop_look v w x now }
+fn stop_look(r: Receiver, x: bool, now: RxC) -> Sampled
+    ensures { result ≡ stop_look r.value r.wrong x now }
 {
-    let next = after_mark(x);
     Sampled {
-        next: next,
-        heard: Heard::Character(Arrival {
-            value: v,
-            parity: 0 < w,
+        next: after_mark(x),
+        heard: Some(Arrival {
+            value: r.value,
+            parity: 0 < r.wrong,
             framing: !x,
             stamp: now,
         }),
     }
 }
 
-// Look number m: 0 at the start, then the data, the parity and the stop.
-fn look_at(f: Format, m: u16, v: u8, w: u8, x: bool, now: RxC) -> Sampled
-    ensures { result ≡ look_at f m v w x now }
+// A look by its number: 0 at the start, then the data, the parity and the stop.
+#[tactic(auto, using(line_rules::proofs::Branches::look_part, line_rules::proofs::Parts::part_data, line_rules::proofs::Parts::part_parity, line_rules::proofs::Parts::part_stop))]
+fn look_at(f: Format, r: Receiver, x: bool, now: RxC) -> Sampled
+    ensures { result ≡ look_at f r.look r.value r.wrong x now }
 {
-    if m == 0 {
+    if r.look == 0 {
         return start_look(f, x);
     }
-    let i = m - 1;
-    let n = wide(f.length);
+    let i = r.look - 1;
+    let n = u16::from(f.length);
     if i < n {
-        return look_next(f, m + 1, with_bit(v, i, x), w);
+        return look_next(
+            f,
+            Receiver {
+                look: r.look + 1,
+                value: with_bit(r.value, i, x),
+                ..r
+            },
+        );
     }
     if i < n + parity_bits(f) {
-        return parity_look(f, m + 1, v, x);
+        return parity_look(f, r, x);
     }
-    stop_look(v, w, x, now)
+    stop_look(r, x, now)
 }
 
 // A tick of a character under way: samples between looks are not looked at.
-fn under(f: Format, c: u8, m: u16, v: u8, w: u8, x: bool, now: RxC) -> Sampled
-    ensures { result ≡ Receiving.under f c m v w x now }
+fn under(f: Format, r: Receiver, x: bool, now: RxC) -> Sampled
+    ensures { result ≡ Receiving.under f r.countdown r.look r.value r.wrong x now }
 {
-    if c == 0 {
-        return look_at(f, m, v, w, x, now);
+    if r.countdown == 0 {
+        return look_at(f, r, x, now);
     }
-    quiet(assembling(c - 1, m, v, w))
+    quiet(Receiver {
+        phase: 2,
+        countdown: r.countdown - 1,
+        ..r
+    })
 }
 
 // The receiver at one sample: what it leaves, and whether a character arrived with it. The receive tally counts this sample's tick.
+#[tactic(auto, unfolding(line_rules::specs::Receiving::sample))]
 pub fn sample(f: Format, r: Receiver, x: bool, now: RxC) -> Sampled
     ensures { result ≡ Receiving.sample f r x now }
 {
-    if r.phase == 0 {
-        return quiet(after_mark(x));
+    match r.phase {
+        0 => quiet(after_mark(x)),
+        1 if x => quiet(at_rest(1)),
+        1 => under(f, found(f), false, now),
+        _ => under(f, r, x, now),
     }
-    if r.phase == 1 {
-        if x {
-            return quiet(searching());
-        }
-        return under(f, half(f), 0, 0, 0, false, now);
-    }
-    under(f, r.countdown, r.look, r.value, r.wrong, x, now)
 }

@@ -1,4 +1,5 @@
-// The parity of each of the 256 byte values: 1 where the byte has an odd number of ones.
+// The parity of each of the 256 byte values: 1 where the byte has an odd number of ones. (A table, as document 01's form for this place asks,
+// "Forms for specific places"; `wrong_table_entry` is a wrong entry of it.)
 ghost use Rattle.std.specs.Prelude.{◌≡◌};
 ghost use Rattle.line_rules.specs.Sending.{odd_ones};
 
@@ -26,5 +27,5 @@ const ODD: [u8; 256] = [
 pub fn odd(c: u8) -> bool
     ensures { result ≡ odd_ones 8 c }
 {
-    ODD[c as usize] == 1
+    ODD[usize::from(c)] == 1
 }

@@ -8,7 +8,7 @@ use mathlib.Core.Bool.{Bool}
 use Rattle.line_rules.specs.declared.Format.{Format}
 use Rattle.line_rules.specs.declared.RxC.{RxC}
 use Rattle.line_rules.specs.Sending.{part}
-use Rattle.line_rules.specs.Receiving.{assembling, quiet, look_next, with_bit, parity_look, stop_look, look_at, under}
+use Rattle.line_rules.specs.Receiving.{look_next, with_bit, parity_look, stop_look, look_at, under, quiet, assembling}
 
 less_one : (m : ℕ) → suc m - 1 ≡ m
 less_one m = omega arith

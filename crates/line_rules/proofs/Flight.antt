@@ -10,11 +10,11 @@ use mathlib.Core.List.{List, [], ◌∷◌, ◌++◌, append-nil, head-eq_of_con
 use lib.Dec.{ltb, eqb}
 use lib.ListN.{length}
 use borrow.Author.Tests.{ltb-true, ltb-false, eq-eqb}
+use Rattle.std.specs.Prelude.{Option, None, Some}
+use Rattle.line_rules.specs.declared.Arrival.{Arrival}
 use Rattle.line_rules.specs.declared.Format.{Format}
 use Rattle.line_rules.specs.declared.Receiver.{Receiver}
 use Rattle.line_rules.specs.declared.RxC.{RxC}
-use Rattle.line_rules.specs.declared.Heard.{Heard}
-use Rattle.line_rules.specs.declared.Heard.TheVariants.{Nothing, Character}
 use Rattle.line_rules.specs.declared.Sampled.{Sampled}
 use Rattle.line_rules.specs.Sending.{bit, on, half, parity_bits, stop_sample, cut, odd_ones, parity_bit, part, parity_level, level_of, level, listed}
 use Rattle.line_rules.specs.Clocks.{rx_later, no_rxc}
@@ -72,9 +72,9 @@ after_next f g i t =
 -- == samples of which a single character arrives ==
 
 -- one before its place brings nothing ..
-not_yet : (k : ℕ) (h : Heard) (rest : List Arrived) (a : Arrived) → tell k h rest ≡ a ∷ [] → k < a.at → (h ≡ Nothing) × (rest ≡ a ∷ [])
-not_yet k Nothing rest a e l = (refl, e)
-not_yet k (Character b) rest a e l = absurd (let z : k ≡ a.at = cc in omega arith)
+not_yet : (k : ℕ) (h : Option Arrival) (rest : List Arrived) (a : Arrived) → tell k h rest ≡ a ∷ [] → k < a.at → (h ≡ None) × (rest ≡ a ∷ [])
+not_yet k None rest a e l = (refl, e)
+not_yet k (Some b) rest a e l = absurd (let z : k ≡ a.at = cc in omega arith)
 
 -- .. so those that follow bring it
 to_come : (f : Format) (t : RxC) (r : Receiver) (k : ℕ) (xs ys : List Bool) (a : Arrived) → arrivals f t r k (xs ++ ys) ≡ a ∷ [] → k + length xs < a.at
@@ -86,7 +86,7 @@ to_come f t r k (x ∷ xs) ys a e l =
 
 -- the last one brings it, and its level says what the receiver does next
 abbrev bringing : Bool → Arrived → Sampled
-bringing x a = record { next = after_mark x; heard = Character a.arrival }
+bringing x a = record { next = after_mark x; heard = Some a.arrival }
 
 abbrev Brings : Bool → Sampled → Type 0
 Brings x o = (k : ℕ) (a : Arrived) → tell k o.heard [] ≡ a ∷ [] → o ≡ bringing x a
@@ -125,7 +125,7 @@ module _ (f : Format) (c : ℕ) (g : ℕ → Bool) (pos : 0 < f.factor) (byte : 
       (rw length_listed (omega arith)))
 
   -- nothing arrives with the samples before the stop's ..
-  pub flies : (i : ℕ) (t : RxC) → i < stop_sample f → (sample f (after f searching (listed g 0 i)) (g i) t).heard ≡ Nothing
+  pub flies : (i : ℕ) (t : RxC) → i < stop_sample f → (sample f (after f searching (listed g 0 i)) (g i) t).heard ≡ None
   flies i t h =
       silent_by_any f (after f searching (listed g 0 i)) (g i) (rx_later (suc i) no_rxc) t (not_yet (suc i) _ _ it (comes i (stop_sample f - i) (omega arith)) (omega arith)).0
 
@@ -133,12 +133,12 @@ module _ (f : Format) (c : ℕ) (g : ℕ → Bool) (pos : 0 < f.factor) (byte : 
   abbrev last : Receiver
   last = after f searching (listed g 0 (stop_sample f))
 
-  lands_first : sample f last (g (stop_sample f)) (rx_later (suc (stop_sample f)) no_rxc) ≡ record { next = searching; heard = Character it.arrival }
+  lands_first : sample f last (g (stop_sample f)) (rx_later (suc (stop_sample f)) no_rxc) ≡ record { next = searching; heard = Some it.arrival }
   lands_first =
       sample_brings f _ (g (stop_sample f)) _ (suc (stop_sample f)) it (comes (stop_sample f) 0 (omega arith))
       ∙ ap (λ (x : Bool). bringing x it)
       (sees.looks (suc (f.length + parity_bits f)) (omega arith) ∙ part_stop f (f.length + parity_bits f) _ _ _ (omega arith))
 
   pub lands : (t : RxC) → sample f (after f searching (listed g 0 (stop_sample f))) (g (stop_sample f)) t
-      ≡ record { next = searching; heard = Character (record { value = cut f c; parity = false; framing = false; stamp = t }) }
+      ≡ record { next = searching; heard = Some (record { value = cut f c; parity = false; framing = false; stamp = t }) }
   lands t = brings_by_any f last searching (g (stop_sample f)) (rx_later (suc (stop_sample f)) no_rxc) t it.arrival lands_first

@@ -8,12 +8,11 @@ use mathlib.Core.Bool.{Bool, true, false, cond}
 use mathlib.Core.List.{List, [], ◌∷◌, ◌++◌, map}
 use lib.Dec.{ltb, eqb}
 use lib.ListN.{length, replicate}
+use Rattle.std.specs.Prelude.{Option, None, Some}
 use Rattle.line_rules.specs.declared.Format.{Format}
 use Rattle.line_rules.specs.declared.Receiver.{Receiver}
 use Rattle.line_rules.specs.declared.RxC.{RxC}
 use Rattle.line_rules.specs.declared.Arrival.{Arrival}
-use Rattle.line_rules.specs.declared.Heard.{Heard}
-use Rattle.line_rules.specs.declared.Heard.TheVariants.{Nothing, Character}
 use Rattle.line_rules.specs.declared.Sampled.{Sampled}
 use Rattle.line_rules.specs.Sending.{half, parity_bits, part}
 use Rattle.line_rules.specs.Clocks.{rx_later, no_rxc}
@@ -41,9 +40,9 @@ sample_under f c m v w x t = refl
 
 -- == the tally is the stamp of what arrives, and nothing else ==
 
-abbrev stamped_with : RxC → Heard → Heard
-stamped_with u Nothing = Nothing
-stamped_with u (Character a) = Character (record { value = a.value; parity = a.parity; framing = a.framing; stamp = u })
+abbrev stamped_with : RxC → Option Arrival → Option Arrival
+stamped_with u None = None
+stamped_with u (Some a) = Some (record { value = a.value; parity = a.parity; framing = a.framing; stamp = u })
 
 abbrev restamped : RxC → Sampled → Sampled
 restamped u o = record { next = o.next; heard = stamped_with u o.heard }
@@ -77,18 +76,18 @@ pub leaves_alike : (f : Format) (r : Receiver) (x : Bool) (t : RxC) → (sample 
 leaves_alike f r x t = ap (λ (o : Sampled). o.next) (restamps f r x t no_rxc).alike
 
 -- .. what brings nothing does so by any ..
-pub silent_by_any : (f : Format) (r : Receiver) (x : Bool) (t u : RxC) → (sample f r x t).heard ≡ Nothing → (sample f r x u).heard ≡ Nothing
+pub silent_by_any : (f : Format) (r : Receiver) (x : Bool) (t u : RxC) → (sample f r x t).heard ≡ None → (sample f r x u).heard ≡ None
 silent_by_any f r x t u e = sym (ap (λ (o : Sampled). o.heard) (restamps f r x t u).alike) ∙ ap (stamped_with u) e
 
 -- .. and what brings a character brings it with its own
-pub brings_by_any : (f : Format) (r s : Receiver) (x : Bool) (t u : RxC) (a : Arrival) → sample f r x t ≡ record { next = s; heard = Character a }
-    → sample f r x u ≡ record { next = s; heard = Character (record { value = a.value; parity = a.parity; framing = a.framing; stamp = u }) }
+pub brings_by_any : (f : Format) (r s : Receiver) (x : Bool) (t u : RxC) (a : Arrival) → sample f r x t ≡ record { next = s; heard = Some a }
+    → sample f r x u ≡ record { next = s; heard = Some (record { value = a.value; parity = a.parity; framing = a.framing; stamp = u }) }
 brings_by_any f r s x t u a e = sym (restamps f r x t u).alike ∙ ap (restamped u) e
 
 -- a character's stamp is the tally with which it came
-pub stamp_is_now : (f : Format) (r : Receiver) (x : Bool) (t : RxC) (a : Arrival) → (sample f r x t).heard ≡ Character a → a.stamp ≡ t
+pub stamp_is_now : (f : Format) (r : Receiver) (x : Bool) (t : RxC) (a : Arrival) → (sample f r x t).heard ≡ Some a → a.stamp ≡ t
 stamp_is_now f r x t a e =
-    let same : stamped_with t (Character a) ≡ Character a = ap (stamped_with t) (sym e) ∙ ap (λ (o : Sampled). o.heard) (restamps f r x t t).alike ∙ e in
+    let same : stamped_with t (Some a) ≡ Some a = ap (stamped_with t) (sym e) ∙ ap (λ (o : Sampled). o.heard) (restamps f r x t t).alike ∙ e in
     ap (stamped_or t) (sym same)
 
 -- == samples that bring nothing ==
@@ -135,16 +134,16 @@ pub after_append : (f : Format) (r : Receiver) (xs ys : List Bool) → after f r
 after_append f r [] ys = refl
 after_append f r (x ∷ xs) ys = after_append f (leaves f r x) xs ys
 
-tell_append : (k : ℕ) (h : Heard) (rs ss : List Arrived) → tell k h (rs ++ ss) ≡ tell k h rs ++ ss
-tell_append k Nothing rs ss = refl
-tell_append k (Character a) rs ss = refl
+tell_append : (k : ℕ) (h : Option Arrival) (rs ss : List Arrived) → tell k h (rs ++ ss) ≡ tell k h rs ++ ss
+tell_append k None rs ss = refl
+tell_append k (Some a) rs ss = refl
 
 pub arrivals_append : (f : Format) (t : RxC) (r : Receiver) (k : ℕ) (xs ys : List Bool)
     → arrivals f t r k (xs ++ ys) ≡ arrivals f t r k xs ++ arrivals f t (after f r xs) (k + length xs) ys
 arrivals_append f t r k [] ys = rw add-zero
 arrivals_append f t r k (x ∷ xs) ys =
     let s : Receiver = leaves f r x in
-    let heard : Heard = (sample f r x (rx_later (suc k) t)).heard in
+    let heard : Option Arrival = (sample f r x (rx_later (suc k) t)).heard in
     ap (tell (suc k) heard)
     (arrivals_append f t s (suc k) xs ys
     ∙ ap (λ (i : ℕ). arrivals f t s (suc k) xs ++ arrivals f t (after f s xs) i ys) (let e : suc k + length xs ≡ k + suc (length xs) = omega arith in e))
@@ -155,9 +154,9 @@ pub silent_before : (f : Format) (t : RxC) (r s : Receiver) (k : ℕ) (xs ys : L
     → arrivals f t r k (xs ++ ys) ≡ arrivals f t s (k + length xs) ys
 silent_before f t r s k xs ys h = arrivals_append f t r k xs ys ∙ rw (h.none t k, h.left)
 
-tell_later : (j k : ℕ) (h : Heard) (rs : List Arrived) → map (later j) (tell k h rs) ≡ tell (j + k) h (map (later j) rs)
-tell_later j k Nothing rs = refl
-tell_later j k (Character a) rs = refl
+tell_later : (j k : ℕ) (h : Option Arrival) (rs : List Arrived) → map (later j) (tell k h rs) ≡ tell (j + k) h (map (later j) rs)
+tell_later j k None rs = refl
+tell_later j k (Some a) rs = refl
 
 -- the same samples j later bring the same, j later; the tally before them is j more
 pub arrivals_later : (f : Format) (t : RxC) (r : Receiver) (j k : ℕ) (xs : List Bool) → arrivals f t r (j + k) xs ≡ map (later j) (arrivals f (rx_later j t) r k xs)

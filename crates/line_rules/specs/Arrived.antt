@@ -1,18 +1,16 @@
 -- What has arrived, and when.
 -- Assumes nothing.
-use Rattle.std.specs.Prelude.{ℕ, ◌+◌, false}
+use Rattle.std.specs.Prelude.{ℕ, ◌+◌, false, Option, None, Some}
 use Rattle.line_rules.specs.declared.Format.{Format}
 use Rattle.line_rules.specs.declared.Arrival.{Arrival}
-use Rattle.line_rules.specs.declared.Heard.{Heard}
-use Rattle.line_rules.specs.declared.Heard.TheVariants.{Nothing, Character}
 use Rattle.line_rules.specs.declared.RxC.{RxC}
 use Rattle.line_rules.specs.Sending.{cut}
 use Rattle.line_rules.specs.Clocks.{rx_later}
 
 -- the stamp of what is heard, or what was before it
-abbrev pub stamped_or : RxC → Heard → RxC
-stamped_or before Nothing = before
-stamped_or before (Character a) = a.stamp
+abbrev pub stamped_or : RxC → Option Arrival → RxC
+stamped_or before None = before
+stamped_or before (Some a) = a.stamp
 
 -- a character with the number of its stop sample; samples count from 1
 pub record Arrived : Type 0 where

@@ -1,11 +1,10 @@
 -- What the receiver does at a sample: document 01, "Receiving, by receive ticks".
 -- Assumes nothing.
-use Rattle.std.specs.Prelude.{ℕ, zero, suc, ◌+◌, ◌*◌, ◌-◌, ◌^◌, ◌%◌, Bool, true, false, cond, not, List, [], ◌∷◌, eqb}
+use Rattle.std.specs.Prelude.{ℕ, zero, suc, ◌+◌, ◌*◌, ◌-◌, ◌^◌, ◌%◌, Bool, true, false, cond, not, List, [], ◌∷◌, eqb, Option, None, Some}
+use Rattle.line_rules.specs.declared.Arrival.{Arrival}
 use Rattle.line_rules.specs.declared.Format.{Format}
 use Rattle.line_rules.specs.declared.Receiver.{Receiver}
 use Rattle.line_rules.specs.declared.RxC.{RxC}
-use Rattle.line_rules.specs.declared.Heard.{Heard}
-use Rattle.line_rules.specs.declared.Heard.TheVariants.{Nothing, Character}
 use Rattle.line_rules.specs.declared.Sampled.{Sampled}
 use Rattle.line_rules.specs.Clocks.{rx_later, no_rxc}
 use Rattle.line_rules.specs.Arrived.{Arrived}
@@ -36,7 +35,7 @@ after_mark x = cond x searching waiting
 
 -- nothing arrives
 abbrev pub quiet : Receiver → Sampled
-quiet r = record { next = r; heard = Nothing }
+quiet r = record { next = r; heard = None }
 
 -- the next look is F ticks after this one
 abbrev pub look_next : Format → (look value wrong : ℕ) → Sampled
@@ -57,7 +56,7 @@ parity_look f look value x = look_next f look value (bit (differ x (parity_bit f
 -- the stop: the character arrives, stamped with the receive tally now; a stop of 0 is a framing fault, and a 1 must come before the next search
 abbrev pub stop_look : (value wrong : ℕ) → Bool → RxC → Sampled
 stop_look value wrong x now =
-    record { next = after_mark x; heard = Character (record { value = value; parity = on wrong; framing = not x; stamp = now }) }
+    record { next = after_mark x; heard = Some (record { value = value; parity = on wrong; framing = not x; stamp = now }) }
 
 -- a look sees x: look 0 the start, look i + 1 what follows it by its number i, which is data, parity or stop
 abbrev pub look_at : Format → (look value wrong : ℕ) → Bool → RxC → Sampled
@@ -80,9 +79,9 @@ sample f r x now =
 -- == many samples ==
 
 -- what a sample's answer adds to the list: nothing, or the character that arrived with sample number k
-abbrev pub tell : ℕ → Heard → List Arrived → List Arrived
-tell k Nothing rest = rest
-tell k (Character a) rest = record { at = k; arrival = a } ∷ rest
+abbrev pub tell : ℕ → Option Arrival → List Arrived → List Arrived
+tell k None rest = rest
+tell k (Some a) rest = record { at = k; arrival = a } ∷ rest
 
 -- what a sample leaves: the tally does not matter to it (proofs/Samples.antt, `leaves_alike`)
 abbrev pub leaves : Format → Receiver → Bool → Receiver

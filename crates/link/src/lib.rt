@@ -2,247 +2,175 @@
 // Every call takes any number in any field: `link_rules` says what each answers, inside the range and outside.
 #![tactic(auto)]
 
-ghost use Rattle.std.specs.Prelude.{◌≡◌, suc, ◌+◌, ◌-◌, ◌^◌, false, nat_lt};
-ghost use Rattle.line_rules.specs.Sending.{parity_bits};
-ghost use Rattle.link_rules.specs.Parts.{no_format, no_frame, idle_sender, loaded, unloaded, sender_later, started, idle_receiver, dropped, emptied, receiver_later};
+ghost use Rattle.std.specs.Prelude.{◌≡◌, ◌^◌, false, nat_eq, nat_lt};
+ghost use Rattle.link_rules.specs.Parts.{idle_sender, loaded, unloaded, sender_later, started, idle_receiver, dropped, emptied, receiver_later};
 ghost use Rattle.link_rules.specs.Transmitting;
-ghost use Rattle.link_rules.specs.Transmitting.{next_place, frame_next, frame_tick, begin_tick, idle_tick, break_tick, mark_tick};
+ghost use Rattle.link_rules.specs.Transmitting.{next_place, frame_next, frame_tick, begin_tick, idle_tick, told};
 ghost use Rattle.link_rules.specs.Hearing;
-ghost use Rattle.link_rules.specs.Hearing.{under_way, character_format, kept_format, stepped, holds};
-ghost use Rattle.link_rules.specs.Within.{is_no_format, holding_in_range, busy_in_range, free_in_range, frame_in_range, sender_in_range, countdown_in_range, value_in_range, wrong_in_range, assembly_in_range, rest_in_range, state_in_range, receiver_in_range, sender_rests_in_range, receiver_rests_in_range};
+ghost use Rattle.link_rules.specs.Hearing.{under_way, character_format, stepped, holds};
+ghost use Rattle.link_rules.specs.Within.{is_no_format, holding_in_range, busy_in_range, free_in_range, frame_in_range, sender_in_range, countdown_in_range, value_in_range, wrong_in_range, assembly_in_range, rest_in_range, receiver_in_range, sender_rests_in_range, receiver_rests_in_range};
 ghost use Rattle.link_rules.specs.Within;
 
-use line_rules::{Format, Heard, Receiver, RxC, TxC};
-use link_rules::{Frame, Received, ReceiverHalf, SenderHalf, Sent};
-
-fn no_format() -> Format
-    ensures { result ≡ no_format }
-{
-    Format {
-        factor: 0,
-        length: 0,
-        parity: 0,
-        even: 0,
-        stop: 0,
-    }
-}
-
-fn no_frame() -> Frame
-    ensures { result ≡ no_frame }
-{
-    Frame {
-        character: 0,
-        format: no_format(),
-        place: 0,
-    }
-}
+use line_rules::{Arrival, Format, Receiver, RxC};
+use link_rules::{Frame, HeardTick, ReceiverHalf, SenderHalf, SentTick};
 
 // == the sender ==
+// (ready, broken) stay two parameters: `transmit`'s contract and its definition name the two.
 
 // Nothing waits and nothing is under way.
 pub fn idle_sender() -> SenderHalf
     ensures { result ≡ idle_sender }
 {
-    SenderHalf {
-        frame: no_frame(),
-        holding: 0,
-        full: 0,
-        guard: 0,
-        start: TxC(0),
-        tally: TxC(0),
-    }
+    SenderHalf::default()
 }
 
 // A character is written: a waiting one is replaced.
-pub fn load(mut s: SenderHalf, v: u8) -> SenderHalf
-    ensures { result ≡ loaded s v }
+pub fn load(s: &mut SenderHalf, v: u8)
+    ensures { s.new ≡ loaded s.old v }
 {
     s.holding = v;
     s.full = 1;
-    s
 }
 
-// Its tally k ticks on (P4).
-pub fn sender_later(mut s: SenderHalf, k: u16) -> SenderHalf
-    ensures { result ≡ sender_later k s }
+// Its tally k ticks on (P4). (`receiver_later` is apart, as the two clocks are.)
+pub fn sender_later(s: &mut SenderHalf, k: u16)
+    ensures { s.new ≡ sender_later k s.old }
 {
-    let tally = line::tx_later(s.tally, k);
-    s.tally = tally;
-    s
+    s.tally = line::tx_later(s.tally, k);
 }
 
 // The waiting character leaves, and its frame starts at the tick that the tally has just counted.
-fn unload(mut s: SenderHalf) -> SenderHalf
-    ensures { result ≡ started (unloaded s) }
+fn unload(s: &mut SenderHalf)
+    ensures { s.new ≡ started (unloaded s.old) }
 {
-    let now = s.tally;
     s.holding = 0;
     s.full = 0;
-    s.start = now;
-    s
+    s.start = s.tally;
 }
 
 // The place that follows, and 0 after a frame's last.
 pub fn next_place(f: Format, i: u16) -> u16
     ensures { result ≡ next_place f i }
 {
-    let k = std::num::wrapping_add_u16(i, 1);
-    if (k as u32) < line::frame_length(f) {
+    let k = i.wrapping_add(1);
+    if u32::from(k) < line::frame_length(f) {
         return k;
     }
     0
 }
 
-// The frame after the tick of its place.
-fn frame_next(g: Frame) -> Frame
-    ensures { result ≡ frame_next g }
+// A frame goes on after the tick of its place, or ends: whether that was its last.
+fn frame_on(g: &mut Frame) -> bool
+    ensures frame { g.new ≡ frame_next g.old }
+    ensures last { result ≡ nat_eq (next_place g.old.format g.old.place) 0 }
 {
-    let f = g.format;
-    let k = next_place(f, g.place);
-    if 0 < k {
-        return Frame {
-            character: g.character,
-            format: f,
-            place: k,
-        };
+    let place = next_place(g.format, g.place);
+    if 0 < place {
+        g.place = place;
+        return false;
     }
-    no_frame()
+    *g = Frame::default();
+    true
 }
 
-// A tick of the frame g, behind its first.
-fn frame_tick(mut s: SenderHalf, g: Frame) -> Sent
-    ensures { result ≡ frame_tick s g false }
+// A tick of the frame under way, behind its first.
+fn frame_tick(s: &mut SenderHalf) -> SentTick
+    ensures half { s.new ≡ (frame_tick s.old s.old.frame false).half }
+    ensures told { result ≡ told (frame_tick s.old s.old.frame false) }
 {
-    let f = g.format;
-    let x = line::level(f, g.character, g.place);
-    let last = next_place(f, g.place) == 0;
-    let next = frame_next(g);
-    s.frame = next;
-    Sent {
-        half: s,
-        level: x,
+    let level = line::level(s.frame.format, s.frame.character, s.frame.place);
+    let last = frame_on(&mut s.frame);
+    SentTick {
+        level,
         began: false,
         drained: last & (s.full == 0),
     }
 }
 
 // The waiting character begins its frame, with the start's level.
-fn begin_tick(s: SenderHalf, f: Format) -> Sent
-    ensures { result ≡ begin_tick s f }
+fn begin_tick(s: &mut SenderHalf, f: Format) -> SentTick
+    ensures half { s.new ≡ (begin_tick s.old f).half }
+    ensures told { result ≡ told (begin_tick s.old f) }
 {
-    let g = Frame {
+    s.frame = Frame {
         character: s.holding,
         format: f,
         place: 0,
     };
-    let next = frame_next(g);
-    let mut begun = unload(s);
-    begun.frame = next;
-    Sent {
-        half: begun,
+    unload(s);
+    let last = frame_on(&mut s.frame);
+    SentTick {
         level: false,
         began: true,
-        drained: next_place(f, 0) == 0,
+        drained: last,
     }
 }
 
-fn idle_tick(mut s: SenderHalf, x: bool, guard: u8) -> Sent
-    ensures { result ≡ idle_tick s x guard }
+// No frame is under way: a level, and the guard after it.
+fn idle_tick(s: &mut SenderHalf, level: bool, guard: u8) -> SentTick
+    ensures half { s.new ≡ (idle_tick s.old level guard).half }
+    ensures told { result ≡ told (idle_tick s.old level guard) }
 {
     s.guard = guard;
-    Sent {
-        half: s,
-        level: x,
+    SentTick {
+        level,
         began: false,
         drained: false,
     }
 }
 
-fn break_tick(s: SenderHalf, f: Format) -> Sent
-    ensures { result ≡ break_tick s f }
+// What is sent at a tick that the tally has counted: a break sets the guard, and a mark lets it fall.
+fn sending(s: &mut SenderHalf, ready: bool, broken: bool, f: Format) -> SentTick
+    ensures half { s.new ≡ (Transmitting.sending s.old ready broken f).half }
+    ensures told { result ≡ told (Transmitting.sending s.old ready broken f) }
 {
-    idle_tick(s, false, f.factor)
-}
-
-fn fallen(guard: u8) -> u8
-    ensures { result ≡ guard - 1 }
-{
-    if guard == 0 {
-        return 0;
-    }
-    guard - 1
-}
-
-fn mark_tick(s: SenderHalf) -> Sent
-    ensures { result ≡ mark_tick s }
-{
-    idle_tick(s, true, fallen(s.guard))
-}
-
-// What is sent at a tick that the tally has counted.
-fn sending(s: SenderHalf, ready: bool, broken: bool, f: Format) -> Sent
-    ensures { result ≡ Transmitting.sending s ready broken f }
-{
-    let g = s.frame;
-    if 0 < g.place {
-        return frame_tick(s, g);
+    if 0 < s.frame.place {
+        return frame_tick(s);
     }
     if ready & broken {
-        return break_tick(s, f);
+        return idle_tick(s, false, f.factor);
     }
     if 0 < s.guard {
-        return mark_tick(s);
+        return idle_tick(s, true, s.guard - 1);
     }
     if ready & (0 < s.full) {
         return begin_tick(s, f);
     }
-    mark_tick(s)
+    idle_tick(s, true, 0)
 }
 
 // A transmit tick, told whether a frame or a break may start, whether break is on, and the format. Each one counts.
 #[tactic(auto, unfolding(link_rules::specs::Transmitting::transmit))]
-pub fn transmit(s: SenderHalf, ready: bool, broken: bool, f: Format) -> Sent
-    ensures { result ≡ Transmitting.transmit s ready broken f }
+pub fn transmit(s: &mut SenderHalf, ready: bool, broken: bool, f: Format) -> SentTick
+    ensures half { s.new ≡ (Transmitting.transmit s.old ready broken f).half }
+    ensures told { result ≡ told (Transmitting.transmit s.old ready broken f) }
 {
-    sending(sender_later(s, 1), ready, broken, f)
+    sender_later(s, 1);
+    sending(s, ready, broken, f)
 }
 
 // == the receiver ==
 
-// What a read gives before anything has come.
-const FIRST_HELD: u8 = 0;
-
-// Nothing has come, and it waits for a 1.
+// Nothing has come, and it waits for a 1; a read gives 0.
 pub fn idle_receiver() -> ReceiverHalf
     ensures { result ≡ idle_receiver }
 {
-    ReceiverHalf {
-        state: line::waiting(),
-        format: no_format(),
-        holding: FIRST_HELD,
-        unread: 0,
-        stamp: RxC(0),
-        tally: RxC(0),
-    }
+    ReceiverHalf::default()
 }
 
 // The character under way is dropped, and the receiver waits for a 1.
-pub fn drop_character(mut r: ReceiverHalf) -> ReceiverHalf
-    ensures { result ≡ dropped r }
+pub fn drop_character(r: &mut ReceiverHalf)
+    ensures { r.new ≡ dropped r.old }
 {
-    let state = line::waiting();
-    let format = no_format();
-    r.state = state;
-    r.format = format;
-    r
+    r.state = line::waiting();
+    r.format = Format::default();
 }
 
 // The holding register is read or emptied.
-pub fn empty(mut r: ReceiverHalf) -> ReceiverHalf
-    ensures { result ≡ emptied r }
+pub fn empty(r: &mut ReceiverHalf)
+    ensures { r.new ≡ emptied r.old }
 {
     r.unread = 0;
-    r
 }
 
 fn under_way(s: Receiver) -> bool
@@ -252,100 +180,89 @@ fn under_way(s: Receiver) -> bool
 }
 
 // The format of a character is that of its tick 0.
-fn character_format(r: ReceiverHalf, f: Format) -> Format
-    ensures { result ≡ character_format r f }
+fn character_format(r: &ReceiverHalf, f: Format) -> Format
+    ensures { result ≡ character_format r.now f }
 {
-    let state = r.state;
-    if under_way(state) {
-        return r.format;
-    }
-    f
+    if under_way(r.state) { r.format } else { f }
 }
 
-fn kept_format(s: Receiver, g: Format) -> Format
-    ensures { result ≡ kept_format s g }
+// After a sample that was read in the format g, which is kept while a character is under way.
+fn step(r: &mut ReceiverHalf, g: Format, s: Receiver)
+    ensures { r.new ≡ stepped r.old g s }
 {
-    if under_way(s) {
-        return g;
-    }
-    no_format()
-}
-
-fn step(mut r: ReceiverHalf, g: Format, s: Receiver) -> ReceiverHalf
-    ensures { result ≡ stepped r g s }
-{
-    let format = kept_format(s, g);
     r.state = s;
-    r.format = format;
-    r
+    r.format = if under_way(s) { g } else { Format::default() };
 }
 
 // Its tally k ticks on (P4).
-pub fn receiver_later(mut r: ReceiverHalf, k: u16) -> ReceiverHalf
-    ensures { result ≡ receiver_later k r }
+pub fn receiver_later(r: &mut ReceiverHalf, k: u16)
+    ensures { r.new ≡ receiver_later k r.old }
 {
-    let tally = line::rx_later(r.tally, k);
-    r.tally = tally;
-    r
+    r.tally = line::rx_later(r.tally, k);
 }
 
-fn hold(mut r: ReceiverHalf, v: u8, stamp: RxC) -> ReceiverHalf
-    ensures { result ≡ holds r v stamp }
+fn hold(r: &mut ReceiverHalf, v: u8, stamp: RxC)
+    ensures { r.new ≡ holds r.old v stamp }
 {
     r.holding = v;
     r.unread = 1;
     r.stamp = stamp;
-    r
 }
 
 // What a sample brought enters the holding register, full or not.
-fn brought(r: ReceiverHalf, heard: Heard) -> Received
-    ensures { result ≡ Hearing.brought r heard }
+fn brought(r: &mut ReceiverHalf, heard: Option<Arrival>) -> HeardTick
+    ensures half { r.new ≡ (Hearing.brought r.old heard).half }
+    ensures told { result ≡ Hearing.told (Hearing.brought r.old heard) }
 {
     match heard {
-        Heard::Nothing => Received {
-            half: r,
-            heard: Heard::Nothing,
+        None => HeardTick {
+            heard: None,
             overrun: false,
         },
-        Heard::Character(a) => Received {
-            half: hold(r, a.value, a.stamp),
-            heard: Heard::Character(a),
-            overrun: 0 < r.unread,
-        },
+        Some(a) => {
+            let overrun = 0 < r.unread;
+            hold(r, a.value, a.stamp);
+            HeardTick {
+                heard: Some(a),
+                overrun,
+            }
+        }
     }
 }
 
-fn hear(r: ReceiverHalf, g: Format, x: bool) -> Received
-    ensures { result ≡ Hearing.hear r g x }
+fn hear(r: &mut ReceiverHalf, g: Format, x: bool) -> HeardTick
+    ensures half { r.new ≡ (Hearing.hear r.old g x).half }
+    ensures told { result ≡ Hearing.told (Hearing.hear r.old g x) }
 {
-    let state = r.state;
-    let o = line::sample(g, state, x, r.tally);
-    let next = o.next;
-    let heard = o.heard;
-    brought(step(r, g, next), heard)
+    let o = line::sample(g, r.state, x, r.tally);
+    step(r, g, o.next);
+    brought(r, o.heard)
 }
 
 // What is heard at a tick that the tally has counted.
-fn hearing(r: ReceiverHalf, live: bool, f: Format, x: bool) -> Received
-    ensures { result ≡ Hearing.hearing r live f x }
+fn hearing(r: &mut ReceiverHalf, live: bool, f: Format, x: bool) -> HeardTick
+    ensures half { r.new ≡ (Hearing.hearing r.old live f x).half }
+    ensures told { result ≡ Hearing.told (Hearing.hearing r.old live f x) }
 {
     if live {
-        return hear(r, character_format(r, f), x);
+        let g = character_format(r, f);
+        return hear(r, g, x);
     }
-    Received {
-        half: drop_character(r),
-        heard: Heard::Nothing,
+    drop_character(r);
+    HeardTick {
+        heard: None,
         overrun: false,
     }
 }
 
 // A receive tick, told whether receive is on, the format and the level. Each one counts.
 #[tactic(auto, unfolding(link_rules::specs::Hearing::receive))]
-pub fn receive(r: ReceiverHalf, live: bool, f: Format, x: bool) -> Received
-    ensures { result ≡ Hearing.receive r live f x }
+pub fn receive(r: &mut ReceiverHalf, live: bool, f: Format, x: bool) -> HeardTick
+    ensures half { r.new ≡ (Hearing.receive r.old live f x).half }
+    ensures told { result ≡ Hearing.told (Hearing.receive r.old live f x) }
 {
-    hearing(receiver_later(r, 1), live, f, x)
+    receiver_later(r, 1);
+    hearing(r, live, f, x)
 }
 
 // == the ranges ==
@@ -354,39 +271,35 @@ pub fn receive(r: ReceiverHalf, live: bool, f: Format, x: bool) -> Received
 fn is_no_format(f: Format) -> bool
     ensures { result ≡ is_no_format f }
 {
-    (f.factor == 0) & (f.length == 0) & (f.parity == 0) & (f.even == 0) & (f.stop == 0)
+    f == Format::default()
 }
 
 fn holding_in_range(full: u8, c: u8) -> bool
     ensures { result ≡ holding_in_range full c }
 {
-    (full == 1) | ((full == 0) & (c == 0))
+    full == 1 || (full == 0 && c == 0)
 }
 
-fn busy_in_range(g: Frame, guard: u8) -> bool
-    ensures { result ≡ busy_in_range g guard }
+fn busy_in_range(s: SenderHalf) -> bool
+    ensures { result ≡ busy_in_range s.frame s.guard }
 {
-    let f = g.format;
-    if line::in_range(f) {
-        return ((g.place as u32) < line::frame_length(f)) & (guard == 0);
+    let f = s.frame.format;
+    line::in_range(f) && u32::from(s.frame.place) < line::frame_length(f) && s.guard == 0
+}
+
+fn free_in_range(s: SenderHalf) -> bool
+    ensures { result ≡ free_in_range s.frame s.guard }
+{
+    s.frame.character == 0 && is_no_format(s.frame.format) && s.guard <= 64
+}
+
+fn frame_in_range(s: SenderHalf) -> bool
+    ensures { result ≡ frame_in_range s.frame s.guard }
+{
+    if 0 < s.frame.place {
+        return busy_in_range(s);
     }
-    false
-}
-
-fn free_in_range(g: Frame, guard: u8) -> bool
-    ensures { result ≡ free_in_range g guard }
-{
-    let f = g.format;
-    (g.character == 0) & is_no_format(f) & (guard <= 64)
-}
-
-fn frame_in_range(g: Frame, guard: u8) -> bool
-    ensures { result ≡ frame_in_range g guard }
-{
-    if 0 < g.place {
-        return busy_in_range(g, guard);
-    }
-    free_in_range(g, guard)
+    free_in_range(s)
 }
 
 // Whether a sending half is one of document 01.
@@ -394,14 +307,11 @@ fn frame_in_range(g: Frame, guard: u8) -> bool
 pub fn sender_in_range(s: SenderHalf) -> bool
     ensures { result ≡ sender_in_range s }
 {
-    let g = s.frame;
-    if holding_in_range(s.full, s.holding) {
-        return frame_in_range(g, s.guard);
-    }
-    false
+    holding_in_range(s.full, s.holding) && frame_in_range(s)
 }
 
-// Whether a byte has k bits at most.
+// Whether a byte has k bits at most. (By a test: `checked_shl` has no answer where every byte has, so `is_none_or` is no plainer.)
+#[tactic(auto, using(crate::proofs::Branches::byte_below))]
 fn has_bits(v: u8, k: u16) -> bool
     ensures { result ≡ nat_lt v (2 ^ k) }
 {
@@ -411,79 +321,49 @@ fn has_bits(v: u8, k: u16) -> bool
     true
 }
 
-fn before(m: u16) -> u16
-    ensures { result ≡ m - 1 }
+fn countdown_in_range(f: Format, s: Receiver) -> bool
+    ensures { result ≡ countdown_in_range f s.look s.countdown }
 {
-    if m == 0 {
-        return 0;
+    if s.look == 0 {
+        return s.countdown < line::half(f);
     }
-    m - 1
+    s.countdown < f.factor
 }
 
-fn countdown_in_range(f: Format, m: u16, c: u8) -> bool
-    ensures { result ≡ countdown_in_range f m c }
+fn value_in_range(f: Format, s: Receiver) -> bool
+    ensures { result ≡ value_in_range f s.look s.value }
 {
-    if m == 0 {
-        return c < line::half(f);
-    }
-    c < f.factor
+    has_bits(s.value, s.look.saturating_sub(1)) & has_bits(s.value, u16::from(f.length))
 }
 
-fn value_in_range(f: Format, m: u16, v: u8) -> bool
-    ensures { result ≡ value_in_range f m v }
+fn wrong_in_range(f: Format, s: Receiver) -> bool
+    ensures { result ≡ wrong_in_range f s.look s.wrong }
 {
-    has_bits(v, before(m)) & has_bits(v, f.length as u16)
-}
-
-fn wrong_in_range(f: Format, m: u16, w: u8) -> bool
-    ensures { result ≡ wrong_in_range f m w }
-{
-    let n = f.length as u16;
-    let judged = (0 < f.parity) & (m == n + 2);
+    let judged = (0 < f.parity) & (s.look == u16::from(f.length) + 2);
     if judged {
-        return w <= 1;
+        return s.wrong <= 1;
     }
-    w == 0
-}
-
-// n + p + 1, the number of the look at the stop.
-fn last_look(f: Format) -> u16
-    ensures { result ≡ suc (f.length + parity_bits f) }
-{
-    let n = f.length as u16;
-    if 0 < f.parity {
-        return n + 2;
-    }
-    n + 1
+    s.wrong == 0
 }
 
 fn assembly_in_range(f: Format, s: Receiver) -> bool
     ensures { result ≡ assembly_in_range f s }
 {
-    (s.phase == 2)
-        & (s.look <= last_look(f))
-        & countdown_in_range(f, s.look, s.countdown)
-        & value_in_range(f, s.look, s.value)
-        & wrong_in_range(f, s.look, s.wrong)
+    s.phase == 2
+        && s.look <= line::last_look(f)
+        && countdown_in_range(f, s)
+        && value_in_range(f, s)
+        && wrong_in_range(f, s)
 }
 
 // Nothing of a character stands in the receiver.
 fn rest_in_range(s: Receiver) -> bool
     ensures { result ≡ rest_in_range s }
 {
-    (s.countdown == 0) & (s.value == 0) & (s.wrong == 0) & (s.look == 0)
-}
-
-fn state_in_range(f: Format, s: Receiver) -> bool
-    ensures { result ≡ state_in_range f s }
-{
-    if under_way(s) {
-        if line::in_range(f) {
-            return assembly_in_range(f, s);
-        }
-        return false;
+    s == Receiver {
+        phase: s.phase,
+        ..Receiver::default()
     }
-    is_no_format(f) & rest_in_range(s)
 }
 
 // No character is under way.
@@ -497,7 +377,7 @@ pub fn clear(r: ReceiverHalf) -> bool
 pub fn sender_rests_in_range(s: SenderHalf) -> bool
     ensures { result ≡ sender_rests_in_range s }
 {
-    holding_in_range(s.full, s.holding) & free_in_range(s.frame, s.guard)
+    holding_in_range(s.full, s.holding) & free_in_range(s)
 }
 
 // Whether a receiving half with no character under way is.
@@ -507,12 +387,20 @@ pub fn receiver_rests_in_range(r: ReceiverHalf) -> bool
     (r.unread <= 1) & clear(r)
 }
 
+// Whether the receiver of a half and its format are those of document 01.
+fn state_in_range(r: ReceiverHalf) -> bool
+    ensures { result ≡ Within.state_in_range r.format r.state }
+{
+    if under_way(r.state) {
+        return line::in_range(r.format) && assembly_in_range(r.format, r.state);
+    }
+    clear(r)
+}
+
 // Whether a receiving half is one of document 01.
 #[tactic(auto, unfolding(link_rules::specs::Within::receiver_in_range))]
 pub fn receiver_in_range(r: ReceiverHalf) -> bool
     ensures { result ≡ receiver_in_range r }
 {
-    let f = r.format;
-    let s = r.state;
-    (r.unread <= 1) & state_in_range(f, s)
+    (r.unread <= 1) & state_in_range(r)
 }

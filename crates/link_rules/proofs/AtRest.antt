@@ -6,19 +6,18 @@ use mathlib.Core.Path.{◌≡◌, refl, ap, ap₂, sym, ◌∙◌}
 use mathlib.Core.Bool.{Bool, true, false, ◌&&◌}
 use lib.Dec.{eqb, leb}
 use borrow.Author.Tests.{eqb-true, le-ltb}
+use Rattle.std.specs.Prelude.{None}
 use Rattle.line_rules.specs.declared.Format.{Format}
 use Rattle.line_rules.specs.declared.Receiver.{Receiver}
 use Rattle.line_rules.specs.declared.RxC.{RxC}
-use Rattle.line_rules.specs.declared.Heard.TheVariants.{Nothing}
 use Rattle.line_rules.specs.Sending.{bit}
 use Rattle.line_rules.specs.Clocks.{rx_later}
 use Rattle.line_rules.specs.Receiving.{at_rest, sample}
 use Rattle.line_rules.proofs.Table.{both}
 use Rattle.link_rules.specs.declared.ReceiverHalf.{ReceiverHalf}
-use Rattle.link_rules.specs.declared.Received.{Received}
 use Rattle.link_rules.specs.Parts.{no_format, resting, receiver_later}
 use Rattle.link_rules.specs.Within.{is_no_format, rest_in_range, clear, state_in_range, receiver_in_range}
-use Rattle.link_rules.specs.Hearing.{receive}
+use Rattle.link_rules.specs.Hearing.{Received, receive}
 
 -- == all that belongs to a character is 0 ==
 
@@ -57,7 +56,7 @@ in_range_clear r h l = let t = (both (leb r.unread 1) (state_in_range r.format r
 
 -- what a tick leaves that brings nothing
 abbrev pub quietly : ReceiverHalf → Received
-quietly r = record { half = r; heard = Nothing; overrun = false }
+quietly r = record { half = r; heard = None; overrun = false }
 
 -- what a tick leaves as it is, but for the tally: told whether receive is on and the level
 abbrev pub Stays : ℕ → Bool → Bool → Type 0

@@ -16,9 +16,8 @@ use Rattle.line_rules.proofs.Clocks.{tx_later_later}
 use Rattle.line_rules.proofs.Choice.{either, each}
 use Rattle.link_rules.specs.declared.Frame.{Frame}
 use Rattle.link_rules.specs.declared.SenderHalf.{SenderHalf}
-use Rattle.link_rules.specs.declared.Sent.{Sent}
 use Rattle.link_rules.specs.Parts.{no_frame, with_guard, sender_later}
-use Rattle.link_rules.specs.Transmitting.{next_place, frame_at, frame_next, frame_tick, begin_tick, break_tick, mark_tick, transmit}
+use Rattle.link_rules.specs.Transmitting.{Sent, next_place, frame_at, frame_next, frame_tick, begin_tick, break_tick, mark_tick, transmit}
 
 -- == a break ==
 

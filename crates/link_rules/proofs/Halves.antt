@@ -7,12 +7,11 @@ use native.Mathlib.Omega.{arith}
 use mathlib.Core.Path.{◌≡◌, refl, ap, sym, ◌∙◌}
 use mathlib.Core.Bool.{Bool, true, false, cond, ◌&&◌, true≢false}
 use borrow.Author.Tests.{lt-ltb, le-ltb}
+use Rattle.std.specs.Prelude.{Option, None, Some}
 use Rattle.line_rules.specs.declared.Format.{Format}
 use Rattle.line_rules.specs.declared.Receiver.{Receiver}
 use Rattle.line_rules.specs.declared.RxC.{RxC}
 use Rattle.line_rules.specs.declared.Arrival.{Arrival}
-use Rattle.line_rules.specs.declared.Heard.{Heard}
-use Rattle.line_rules.specs.declared.Heard.TheVariants.{Nothing, Character}
 use Rattle.line_rules.specs.declared.Sampled.{Sampled}
 use Rattle.line_rules.specs.Sending.{on, parity_bits, frame_length}
 use Rattle.line_rules.specs.Range.{Bounds}
@@ -24,12 +23,10 @@ use Rattle.line_rules.proofs.Samples.{stamp_is_now}
 use Rattle.link_rules.specs.declared.Frame.{Frame}
 use Rattle.link_rules.specs.declared.SenderHalf.{SenderHalf}
 use Rattle.link_rules.specs.declared.ReceiverHalf.{ReceiverHalf}
-use Rattle.link_rules.specs.declared.Received.{Received}
-use Rattle.link_rules.specs.declared.Sent.{Sent}
 use Rattle.link_rules.specs.Parts.{no_frame, no_format, dropped, sender_later, receiver_later}
-use Rattle.link_rules.specs.Transmitting.{next_place, frame_next, frame_tick, begin_tick, break_tick, mark_tick, transmit}
+use Rattle.link_rules.specs.Transmitting.{Sent, next_place, frame_next, frame_tick, begin_tick, break_tick, mark_tick, transmit}
 use Rattle.line_rules.proofs.Choice.{either}
-use Rattle.link_rules.specs.Hearing.{under_way, character_format, stepped, arrives, arrived_or, brought, hear, receive}
+use Rattle.link_rules.specs.Hearing.{Received, under_way, character_format, stepped, arrives, arrived_or, brought, hear, receive}
 
 -- == the sender ==
 
@@ -104,39 +101,39 @@ frame_ends f c i fits h = ap (λ (k : ℕ). cond (on k) (frame_of f c k) no_fram
 
 -- == the receiver ==
 
-abbrev any : Heard → Bool
+abbrev any : Option Arrival → Bool
 any h = arrives (λ (a : Arrival). true) h
 
-brought_unread : (r : ReceiverHalf) (h : Heard) → on (brought r h).half.unread ≡ cond (any (brought r h).heard) true (on r.unread)
-brought_unread r Nothing = refl
-brought_unread r (Character a) = refl
+brought_unread : (r : ReceiverHalf) (h : Option Arrival) → on (brought r h).half.unread ≡ cond (any (brought r h).heard) true (on r.unread)
+brought_unread r None = refl
+brought_unread r (Some a) = refl
 
-brought_overrun : (r : ReceiverHalf) (h : Heard) → (brought r h).overrun ≡ (any (brought r h).heard && on r.unread)
-brought_overrun r Nothing = refl
-brought_overrun r (Character a) = refl
+brought_overrun : (r : ReceiverHalf) (h : Option Arrival) → (brought r h).overrun ≡ (any (brought r h).heard && on r.unread)
+brought_overrun r None = refl
+brought_overrun r (Some a) = refl
 
-brought_stamp : (r : ReceiverHalf) (h : Heard) → (brought r h).half.stamp ≡ stamped_or r.stamp (brought r h).heard
-brought_stamp r Nothing = refl
-brought_stamp r (Character a) = refl
+brought_stamp : (r : ReceiverHalf) (h : Option Arrival) → (brought r h).half.stamp ≡ stamped_or r.stamp (brought r h).heard
+brought_stamp r None = refl
+brought_stamp r (Some a) = refl
 
-brought_tally : (r : ReceiverHalf) (h : Heard) → (brought r h).half.tally ≡ r.tally
-brought_tally r Nothing = refl
-brought_tally r (Character a) = refl
+brought_tally : (r : ReceiverHalf) (h : Option Arrival) → (brought r h).half.tally ≡ r.tally
+brought_tally r None = refl
+brought_tally r (Some a) = refl
 
-brought_held : (r : ReceiverHalf) (h : Heard) → (brought r h).half.holding ≡ arrived_or r.holding (brought r h).heard
-brought_held r Nothing = refl
-brought_held r (Character a) = refl
+brought_held : (r : ReceiverHalf) (h : Option Arrival) → (brought r h).half.holding ≡ arrived_or r.holding (brought r h).heard
+brought_held r None = refl
+brought_held r (Some a) = refl
 
-brought_heard : (r : ReceiverHalf) (h : Heard) → (brought r h).heard ≡ h
-brought_heard r Nothing = refl
-brought_heard r (Character a) = refl
+brought_heard : (r : ReceiverHalf) (h : Option Arrival) → (brought r h).heard ≡ h
+brought_heard r None = refl
+brought_heard r (Some a) = refl
 
-nothing_came : (a : Arrival) → Nothing ≡ Character a → ⊥
+nothing_came : (a : Arrival) → None ≡ Some a → ⊥
 nothing_came a e = true≢false (sym (ap any e))
 
 -- what a tick that is off leaves: nothing arrives
 abbrev unheard : ReceiverHalf → Received
-unheard r = record { half = dropped r; heard = Nothing; overrun = false }
+unheard r = record { half = dropped r; heard = None; overrun = false }
 
 module _ (r : ReceiverHalf) (live : Bool) (f : Format) (x : Bool) where
   abbrev tick : Received
@@ -181,14 +178,14 @@ module _ (r : ReceiverHalf) (live : Bool) (f : Format) (x : Bool) where
   receive_counts = of_tick (λ (o : Received). o.half.tally ≡ rx_later 1 r.tally) (λ s. brought_tally (stepped clocked (character_format r f) s) sampled.heard) refl
 
   -- .. and is the stamp of what arrives with it
-  pub stamp_now : (a : Arrival) → tick.heard ≡ Character a → a.stamp ≡ rx_later 1 r.tally
+  pub stamp_now : (a : Arrival) → tick.heard ≡ Some a → a.stamp ≡ rx_later 1 r.tally
   stamp_now =
-      of_tick (λ (o : Received). (a : Arrival) → o.heard ≡ Character a → a.stamp ≡ rx_later 1 r.tally)
+      of_tick (λ (o : Received). (a : Arrival) → o.heard ≡ Some a → a.stamp ≡ rx_later 1 r.tally)
       (λ s a e. stamp_is_now (character_format r f) r.state x clocked.tally a (sym (brought_heard (stepped clocked (character_format r f) s) sampled.heard) ∙ e))
       (λ a e. absurd (nothing_came a e))
 
 -- a tick that is off drops the character under way, waits for a 1 and brings nothing
-pub receive_off_lem : (r : ReceiverHalf) (f : Format) (x : Bool) → receive r false f x ≡ record { half = dropped (receiver_later 1 r); heard = Nothing; overrun = false }
+pub receive_off_lem : (r : ReceiverHalf) (f : Format) (x : Bool) → receive r false f x ≡ record { half = dropped (receiver_later 1 r); heard = None; overrun = false }
 unfolding receive
 receive_off_lem r f x = refl
 
@@ -223,13 +220,13 @@ stepped_tuned f r s = kept (under_way s)
     kept true = refl
     kept false = refl
 
-brought_state : (r : ReceiverHalf) (h : Heard) → (brought r h).half.state ≡ r.state
-brought_state r Nothing = refl
-brought_state r (Character a) = refl
+brought_state : (r : ReceiverHalf) (h : Option Arrival) → (brought r h).half.state ≡ r.state
+brought_state r None = refl
+brought_state r (Some a) = refl
 
-brought_format : (r : ReceiverHalf) (h : Heard) → (brought r h).half.format ≡ r.format
-brought_format r Nothing = refl
-brought_format r (Character a) = refl
+brought_format : (r : ReceiverHalf) (h : Option Arrival) → (brought r h).half.format ≡ r.format
+brought_format r None = refl
+brought_format r (Some a) = refl
 
 module _ (f : Format) (r : ReceiverHalf) (x : Bool) (t : Tuned f r) where
   -- the half with this tick counted, and the sample

@@ -8,11 +8,11 @@ use mathlib.Core.Bool.{Bool, true, false, cond, ◌&&◌}
 use lib.Dec.{ltb, leb, eqb}
 use lib.Pow.{pow_pos}
 use borrow.Author.Tests.{ltb-true, ltb-false, leb-true, eqb-true, eqb-false, lt-ltb, le-leb, eq-eqb, ne_eqb}
+use Rattle.std.specs.Prelude.{Option, None, Some}
+use Rattle.line_rules.specs.declared.Arrival.{Arrival}
 use Rattle.line_rules.specs.declared.Format.{Format}
 use Rattle.line_rules.specs.declared.Receiver.{Receiver}
 use Rattle.line_rules.specs.declared.RxC.{RxC}
-use Rattle.line_rules.specs.declared.Heard.{Heard}
-use Rattle.line_rules.specs.declared.Heard.TheVariants.{Nothing, Character}
 use Rattle.line_rules.specs.declared.Sampled.{Sampled}
 use Rattle.line_rules.specs.Sending.{bit, on, differ, half, parity_bits, parity_bit, part}
 use Rattle.line_rules.specs.Range.{in_range}
@@ -20,9 +20,8 @@ use Rattle.line_rules.specs.Receiving.{assembling, after_mark, quiet, with_bit, 
 use Rattle.line_rules.proofs.Table.{both}
 use Rattle.line_rules.proofs.Ranges.{in_range_bounds}
 use Rattle.link_rules.specs.declared.ReceiverHalf.{ReceiverHalf}
-use Rattle.link_rules.specs.declared.Received.{Received}
 use Rattle.link_rules.specs.Parts.{no_format, idle_receiver, dropped, emptied, receiver_later}
-use Rattle.link_rules.specs.Hearing.{under_way, character_format, stepped, brought, hear, receive}
+use Rattle.link_rules.specs.Hearing.{Received, under_way, character_format, stepped, brought, hear, receive}
 use Rattle.link_rules.specs.Within.{countdown_in_range, value_in_range, wrong_in_range, assembly_in_range, state_in_range, receiver_in_range}
 use Rattle.line_rules.proofs.Choice.{either, each, all}
 
@@ -158,10 +157,10 @@ pub emptied_in : (r : ReceiverHalf) → receiver_in_range r ≡ true → receive
 unfolding receiver_in_range
 emptied_in r e = (parts r e).1
 
-brought_in : (r : ReceiverHalf) (o : Heard) → receiver_in_range r ≡ true → receiver_in_range (brought r o).half ≡ true
+brought_in : (r : ReceiverHalf) (o : Option Arrival) → receiver_in_range r ≡ true → receiver_in_range (brought r o).half ≡ true
 unfolding receiver_in_range
-brought_in r Nothing e = e
-brought_in r (Character a) e = (parts r e).1
+brought_in r None e = e
+brought_in r (Some a) e = (parts r e).1
 
 -- the format of a tick is in range, and is the one that a character under way has kept
 format_in : (r : ReceiverHalf) (f : Format) → state_in_range r.format r.state ≡ true → in_range f ≡ true

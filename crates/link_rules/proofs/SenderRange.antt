@@ -13,9 +13,8 @@ use Rattle.line_rules.proofs.Ranges.{in_range_bounds}
 use Rattle.line_rules.proofs.Table.{both}
 use Rattle.link_rules.specs.declared.Frame.{Frame}
 use Rattle.link_rules.specs.declared.SenderHalf.{SenderHalf}
-use Rattle.link_rules.specs.declared.Sent.{Sent}
 use Rattle.link_rules.specs.Parts.{idle_sender, loaded}
-use Rattle.link_rules.specs.Transmitting.{next_place, frame_at, frame_next, transmit}
+use Rattle.link_rules.specs.Transmitting.{Sent, next_place, frame_at, frame_next, transmit}
 use Rattle.link_rules.specs.Within.{is_no_format, holding_in_range, busy_in_range, free_in_range, frame_in_range, sender_in_range}
 use Rattle.line_rules.proofs.Choice.{each, all}
 

@@ -1,18 +1,22 @@
 -- A receive tick of the receiving half: document 01, "Receiving, by receive ticks".
 -- Assumes nothing.
-use Rattle.std.specs.Prelude.{ℕ, Bool, false, cond, ltb}
+use Rattle.std.specs.Prelude.{ℕ, Bool, false, cond, ltb, Option, None, Some}
 use Rattle.line_rules.specs.declared.Format.{Format}
 use Rattle.line_rules.specs.declared.Receiver.{Receiver}
 use Rattle.line_rules.specs.declared.RxC.{RxC}
 use Rattle.line_rules.specs.declared.Arrival.{Arrival}
-use Rattle.line_rules.specs.declared.Heard.{Heard}
-use Rattle.line_rules.specs.declared.Heard.TheVariants.{Nothing, Character}
 use Rattle.line_rules.specs.declared.Sampled.{Sampled}
 use Rattle.line_rules.specs.Sending.{on}
 use Rattle.line_rules.specs.Receiving.{sample}
 use Rattle.link_rules.specs.declared.ReceiverHalf.{ReceiverHalf}
-use Rattle.link_rules.specs.declared.Received.{Received}
+use Rattle.link_rules.specs.declared.HeardTick.{HeardTick}
 use Rattle.link_rules.specs.Parts.{no_format, dropped, receiver_later}
+
+-- what a receive tick leaves and brings, and whether that found the holding register unread
+pub record Received : Type 0 where
+  pub half : ReceiverHalf
+  pub heard : Option Arrival
+  pub overrun : Bool
 
 -- a character is under way: it neither waits for a 1 nor searches for a 0
 abbrev pub under_way : Receiver → Bool
@@ -35,19 +39,19 @@ abbrev pub holds : ReceiverHalf → ℕ → RxC → ReceiverHalf
 holds r v stamp = record { state = r.state; format = r.format; holding = v; unread = 1; stamp = stamp; tally = r.tally }
 
 -- an arrival that is so
-abbrev pub arrives : (Arrival → Bool) → Heard → Bool
-arrives p Nothing = false
-arrives p (Character a) = p a
+abbrev pub arrives : (Arrival → Bool) → Option Arrival → Bool
+arrives p None = false
+arrives p (Some a) = p a
 
 -- the value of an arrival, or what was before it
-abbrev pub arrived_or : ℕ → Heard → ℕ
-arrived_or before Nothing = before
-arrived_or before (Character a) = a.value
+abbrev pub arrived_or : ℕ → Option Arrival → ℕ
+arrived_or before None = before
+arrived_or before (Some a) = a.value
 
 -- what the sample brought, and whether it found the register unread
-abbrev pub brought : ReceiverHalf → Heard → Received
-brought r Nothing = record { half = r; heard = Nothing; overrun = false }
-brought r (Character a) = record { half = holds r a.value a.stamp; heard = Character a; overrun = on r.unread }
+abbrev pub brought : ReceiverHalf → Option Arrival → Received
+brought r None = record { half = r; heard = None; overrun = false }
+brought r (Some a) = record { half = holds r a.value a.stamp; heard = Some a; overrun = on r.unread }
 
 abbrev pub after_sample : ReceiverHalf → Format → Sampled → Received
 after_sample r g o = brought (stepped r g o.next) o.heard
@@ -58,8 +62,12 @@ hear r g x = after_sample r g (sample g r.state x r.tally)
 
 -- what is heard at a tick that the tally has counted, told whether receive is on, the format and the level; one that is off looks at nothing
 abbrev pub hearing : ReceiverHalf → Bool → Format → Bool → Received
-hearing r live f x = cond live (hear r (character_format r f) x) (record { half = dropped r; heard = Nothing; overrun = false })
+hearing r live f x = cond live (hear r (character_format r f) x) (record { half = dropped r; heard = None; overrun = false })
 
 -- the tick: the receive tally goes up by one at each, on or off (P4)
 unfoldable pub receive : ReceiverHalf → Bool → Format → Bool → Received
 receive r live f x = hearing (receiver_later 1 r) live f x
+
+-- what a tick tells beside the half that it leaves
+abbrev pub told : Received → HeardTick
+told r = record { heard = r.heard; overrun = r.overrun }

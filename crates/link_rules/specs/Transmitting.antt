@@ -5,8 +5,15 @@ use Rattle.line_rules.specs.declared.Format.{Format}
 use Rattle.line_rules.specs.Sending.{on, frame_length, level}
 use Rattle.link_rules.specs.declared.Frame.{Frame}
 use Rattle.link_rules.specs.declared.SenderHalf.{SenderHalf}
-use Rattle.link_rules.specs.declared.Sent.{Sent}
+use Rattle.link_rules.specs.declared.SentTick.{SentTick}
 use Rattle.link_rules.specs.Parts.{no_frame, with_frame, with_guard, unloaded, sender_later, started}
+
+-- what a transmit tick leaves and sends; whether it was a frame's first; whether it ended a frame with nothing waiting
+pub record Sent : Type 0 where
+  pub half : SenderHalf
+  pub level : Bool
+  pub began : Bool
+  pub drained : Bool
 
 -- the place that follows in a frame of L ticks, in 16 bits; 0 after the last
 abbrev pub next_place : Format → ℕ → ℕ
@@ -58,3 +65,7 @@ sending s ready broken f =
 -- the tick: the transmit tally goes up by one at each, whatever it sends (P4)
 unfoldable pub transmit : SenderHalf → Bool → Bool → Format → Sent
 transmit s ready broken f = sending (sender_later 1 s) ready broken f
+
+-- what a tick tells beside the half that it leaves
+abbrev pub told : Sent → SentTick
+told s = record { level = s.level; began = s.began; drained = s.drained }

@@ -7,47 +7,28 @@ use mathlib.Core.Path.{◌≡◌, refl, ap, sym, ◌∙◌}
 use mathlib.Core.Bool.{Bool, true, false, not, ◌&&◌, ◌||◌, false≢true}
 use lib.Dec.{leb, ltb, eqb}
 use borrow.Author.Tests.{leb-true, ltb-true, ltb-false, eqb-true}
-use mir.Syntax.{Width, w16, w32}
+use mir.Syntax.{Width, w32}
 use Rattle.line_rules.proofs.Choice.{not_so}
 use Rattle.line_rules.proofs.Table.{both}
 use Rattle.joined_rules.specs.declared.Pair.{Pair}
-use Rattle.joined_rules.specs.declared.Ran.{Ran}
-use Rattle.joined_rules.specs.declared.Waited.{Waited}
+use Rattle.joined_rules.specs.Joining.{Ran}
 use Rattle.joined_rules.specs.Joining as Joining
 use Rattle.joined_rules.specs.TwoWays.{pair_later, stands}
-use Rattle.joined_rules.specs.Waiting.{unread, waited, wait}
+use Rattle.joined_rules.specs.Waiting.{Waited, unread, waited, wait}
 use Rattle.joined_rules.proofs.RunsRefused.{run_done}
 use Rattle.joined_rules.proofs.Standing.{stands_counts}
 use Rattle.joined_rules.proofs.Waits.{wait_refused, wait_done, wait_none, wait_there, wait_stands}
 use Rattle.joined_rules.specs.contracts.Pair as D
 use Rattle.joined_rules.proofs.Pair.TheLaws as D'
-use Rattle.lending.proofs.Lendable.{Lendable, Replying}
+use Rattle.lending.proofs.Lendable.{Lendable}
 use Rattle.lending.proofs.Numbers.{Numbers}
 use Rattle.lending.proofs.Calls.{Promise}
 use Rattle.lending.proofs.Spares.{Spares}
-use Rattle.pair_host.specs.declared.PairReply.{PairReply}
-use Rattle.pair_host.specs.declared.WaitReply.{WaitReply}
 use Rattle.pair_host.specs.Replies.{levels_sent, run_counts, unit_of, wait_answer, wait_counts, wait_spared, wait_told}
 use Rattle.pair_host.specs.Replies as Replies
-use Rattle.pair_host.specs.contracts.PairReply as R
-use Rattle.pair_host.specs.contracts.WaitReply as W
 
 abbrev pub lent_pair : Lendable
 lent_pair = record { type = D.the_type; laws = D'.the_laws; lowers = D'.lowers; plain = D'.the_plain }
-
--- (the pair lies first in this one: src/lib.rt)
-abbrev pub pair_reply : Replying lent_pair
-pair_reply = record {
-  name = (R.the_type).name;
-  wide = w16;
-  Reply = PairReply;
-  answer = λ r. r.answer;
-  value = λ r. r.pair;
-  told_apart = λ x y e. (R.the_type).to_one x y (ap (λ t. (t.1.0, (t.0, tt))) e);
-}
-
-abbrev pub wait_reply : Replying lent_pair
-wait_reply = record { name = (W.the_type).name; wide = w32; Reply = WaitReply; answer = λ r. r.answer; value = λ r. r.pair; told_apart = (W.the_type).to_one }
 
 -- the width of a count of ticks, and of the number of a unit
 abbrev pub count : Width

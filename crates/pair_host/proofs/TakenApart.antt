@@ -9,12 +9,10 @@ use Rattle.ins2651_rules.specs.declared.Device.{Device}
 use Rattle.ins2651_rules.specs.Ranges.{settled}
 use Rattle.ins2651_rules.specs.Ticks.{transmit, transmit_tick, sent}
 use Rattle.joined_rules.specs.declared.Pair.{Pair}
-use Rattle.joined_rules.specs.declared.Joined.{Joined}
-use Rattle.joined_rules.specs.declared.Unit.{Unit}
-use Rattle.joined_rules.specs.declared.Unit.TheVariants as unit
-use Rattle.joined_rules.specs.declared.Waited.{Waited}
-use Rattle.joined_rules.specs.Joining.{tick}
-use Rattle.joined_rules.specs.Waiting.{wait}
+use Rattle.line_rules.specs.declared.Unit.{Unit}
+use Rattle.line_rules.specs.declared.Unit.TheVariants as unit
+use Rattle.joined_rules.specs.Joining.{Joined, tick}
+use Rattle.joined_rules.specs.Waiting.{Waited, wait}
 use Rattle.joined_rules.proofs.Waits.{count_fits}
 use Rattle.pair_host.specs.Replies.{levels_sent, level_of_a, level_of_b, unit_of, wait_answer, wait_refusal, wait_count}
 

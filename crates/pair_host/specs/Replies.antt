@@ -2,25 +2,24 @@
 -- Assumes nothing.
 use Rattle.std.specs.Prelude.{ℕ, ◌+◌, ◌*◌, ◌/◌, ◌%◌, Bool, cond, not, ◌&&◌, ◌||◌, leb, ltb, eqb}
 use Rattle.joined_rules.specs.declared.Pair.{Pair}
-use Rattle.joined_rules.specs.declared.Joined.{Joined}
-use Rattle.joined_rules.specs.declared.Unit.{Unit}
-use Rattle.joined_rules.specs.declared.Unit.TheVariants as unit
-use Rattle.joined_rules.specs.declared.Waited.{Waited}
+use Rattle.joined_rules.specs.Joining.{Joined}
+use Rattle.line_rules.specs.declared.Unit.{Unit}
+use Rattle.line_rules.specs.declared.Unit.TheVariants as unit
 use Rattle.joined_rules.specs.Joining as Joining
 use Rattle.joined_rules.specs.TwoWays.{stands}
 use Rattle.joined_rules.specs.Waiting as Waiting
-use Rattle.joined_rules.specs.Waiting.{unread}
-use Rattle.pair_host.specs.declared.PairReply.{PairReply}
-use Rattle.pair_host.specs.declared.WaitReply.{WaitReply}
+use Rattle.joined_rules.specs.Waiting.{Waited, unread}
+
+-- what an act on a lent pair answers, as one number, and the pair that it leaves
+pub record Reply : Type 0 where
+  pub answer : ℕ
+  pub pair : Pair
 
 -- the levels that a joined tick sent, as one number: 1 where `a` sent a 1, plus 2 where `b` did
 abbrev pub levels_sent : Joined → ℕ
 levels_sent j = j.b * 2 + j.a
 
-abbrev pub tick : Pair → PairReply
-tick p = record { answer = levels_sent (Joining.tick p); pair = (Joining.tick p).pair }
-
-abbrev pub run : Pair → ℕ → PairReply
+abbrev pub run : Pair → ℕ → Reply
 run p n = record { answer = (Joining.run p n).refusal; pair = (Joining.run p n).pair }
 
 -- it is done, of a pair that stands: it only counts
@@ -37,7 +36,7 @@ unit_of n = cond (eqb n 0) unit.A unit.B
 abbrev pub wait_answer : Waited → ℕ
 wait_answer w = w.refusal * 65536 + w.count
 
-abbrev pub wait : Pair → ℕ → ℕ → WaitReply
+abbrev pub wait : Pair → ℕ → ℕ → Reply
 wait p u limit = record { answer = wait_answer (Waiting.wait p (unit_of u) limit); pair = (Waiting.wait p (unit_of u) limit).pair }
 
 -- it is done, of a pair that stands, with no character there: it only counts, to its limit

@@ -1,4 +1,5 @@
-// The C archive of `pair_host`: each export is the call of that name there, with its contract. include/ins2651_pair.h is C's view.
+// The C archive of `pair_host`: each export is the call of that name there, with its contract again, since C knows it by this name.
+// include/ins2651_pair.h is C's view.
 #![tactic(auto)]
 
 ghost use Rattle.std.specs.Prelude.{◌≡◌};

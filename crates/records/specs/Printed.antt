@@ -1,11 +1,12 @@
 -- A record as a line: what a line of a known shape is (proofs/Parser.antt). Document 01, "The session text".
 -- Assumes nothing.
-use Rattle.std.specs.Prelude.{ℕ, ◌^◌, ◌≤◌, ◌<◌, ◌≡◌, Bool, true, false, ◌&&◌, List, [], ◌∷◌, map, leb}
+use Rattle.std.specs.Prelude.{ℕ, ◌^◌, ◌≤◌, ◌<◌, ◌≡◌, Bool, true, ◌&&◌, List, [], ◌∷◌, map, leb}
 use Prim.Native.Char.{code}
 use Rattle.fields.specs.Parted.{numeral}
+use Rattle.line_rules.specs.declared.Unit.{Unit}
+use Rattle.line_rules.specs.declared.Unit.TheVariants.{A, B}
 use Rattle.records.specs.declared.Record.{Record}
-use Rattle.records.specs.declared.Record.TheVariants.{Write, Read, Pins, Reset, Ticks, Wait, Shapeless}
-use Rattle.records.specs.Records.{a_unit}
+use Rattle.records.specs.declared.Record.TheVariants.{Write, Read, Pins, Reset, Ticks, Wait}
 use Rattle.rows.specs.Text.{decimal, letter, tabbed}
 
 -- a field of a record: one letter, or a number
@@ -13,25 +14,31 @@ pub data Column : Type 0 where
   Letter : ℕ → Column
   Number : ℕ → Column
 
--- document 01's letter, unit and values for each case, and request P12's; a line of no known shape has none
+-- a unit by its letter
+abbrev pub letter_of_unit : Unit → ℕ
+letter_of_unit A = code "A"
+letter_of_unit B = code "B"
+
+abbrev pub Named : Unit → Column
+Named unit = Letter (letter_of_unit unit)
+
+-- document 01's letter, unit and values for each case, and request P12's
 abbrev pub columns : Record → List Column
-columns (Write unit address v) = Letter (code "W") ∷ Letter unit ∷ Number address ∷ Number v ∷ []
-columns (Read unit address) = Letter (code "R") ∷ Letter unit ∷ Number address ∷ []
-columns (Pins unit dsr dcd cts) = Letter (code "P") ∷ Letter unit ∷ Number dsr ∷ Number dcd ∷ Number cts ∷ []
-columns (Reset unit) = Letter (code "Z") ∷ Letter unit ∷ []
+columns (Write unit address v) = Letter (code "W") ∷ Named unit ∷ Number address ∷ Number v ∷ []
+columns (Read unit address) = Letter (code "R") ∷ Named unit ∷ Number address ∷ []
+columns (Pins unit dsr dcd cts) = Letter (code "P") ∷ Named unit ∷ Number dsr ∷ Number dcd ∷ Number cts ∷ []
+columns (Reset unit) = Letter (code "Z") ∷ Named unit ∷ []
 columns (Ticks count) = Letter (code "L") ∷ Number count ∷ []
-columns (Wait unit limit) = Letter (code "B") ∷ Letter unit ∷ Number limit ∷ []
-columns Shapeless = []
+columns (Wait unit limit) = Letter (code "B") ∷ Named unit ∷ Number limit ∷ []
 
 -- a count is up to 65535, a limit up to 99999, all else up to 255
 abbrev pub proper : Record → Bool
-proper (Write unit address v) = a_unit unit && leb address 255 && leb v 255
-proper (Read unit address) = a_unit unit && leb address 255
-proper (Pins unit dsr dcd cts) = a_unit unit && leb dsr 255 && leb dcd 255 && leb cts 255
-proper (Reset unit) = a_unit unit
+proper (Write unit address v) = leb address 255 && leb v 255
+proper (Read unit address) = leb address 255
+proper (Pins unit dsr dcd cts) = leb dsr 255 && leb dcd 255 && leb cts 255
+proper (Reset unit) = true
 proper (Ticks count) = leb count 65535
-proper (Wait unit limit) = a_unit unit && leb limit 99999
-proper Shapeless = false
+proper (Wait unit limit) = leb limit 99999
 
 -- these fields are those columns: a number has 1 to 5 digits, leading zeros among them
 pub data Prints : List Column → List (List ℕ) → Type 0 where

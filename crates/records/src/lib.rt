@@ -5,129 +5,149 @@ ghost use Rattle.std.specs.Prelude.{◌≡◌};
 ghost use Rattle.records.specs.Records;
 
 use fields::{Field, Fields};
+use line_rules::Unit;
 
-// A line's record. A unit is its letter, A or B.
-#[derive(Clone, Copy)]
+// A line's record.
+#[derive(Clone, Copy, Debug, PartialEq, Eq)]
 pub enum Record {
-    Write(u8, u8, u8),
-    Read(u8, u8),
-    Pins(u8, u8, u8, u8),
-    Reset(u8),
-    Ticks(u16),
-    Wait(u8, u32),
-    Shapeless,
+    Write {
+        unit: Unit,
+        address: u8,
+        value: u8,
+    },
+    Read {
+        unit: Unit,
+        address: u8,
+    },
+    Pins {
+        unit: Unit,
+        dsr: u8,
+        dcd: u8,
+        cts: u8,
+    },
+    Reset {
+        unit: Unit,
+    },
+    Ticks {
+        count: u16,
+    },
+    Wait {
+        unit: Unit,
+        limit: u32,
+    },
 }
 
-fn is_unit(f: Field) -> bool
-    ensures { result ≡ Records.is_unit f }
+fn unit_of(f: Field) -> Option<Unit>
+    ensures { result ≡ Records.unit_of f }
 {
-    (f.letter == b'A') | (f.letter == b'B')
+    match f.letter? {
+        b'A' => Some(Unit::A),
+        b'B' => Some(Unit::B),
+        _ => None,
+    }
 }
 
 // 1 to 5 digits, not above the limit.
-fn up_to(limit: u32, f: Field) -> bool
+fn up_to(limit: u32, f: Field) -> Option<u32>
     ensures { result ≡ Records.up_to limit f }
 {
-    (f.size <= 5) & (f.number <= limit)
+    f.number.filter(|&n| f.size <= 5 && n <= limit)
 }
 
-// A number below 256 as a byte.
-fn byte_of(f: Field) -> u8
+// `byte_of` and `count_of` are one line each over `up_to`: one of both, generic over the type, would be longer.
+fn byte_of(f: Field) -> Option<u8>
     ensures { result ≡ Records.byte_of f }
 {
-    (f.number % 256) as u8
+    u8::try_from(up_to(255, f)?).ok()
 }
 
-fn count_of(f: Field) -> u16
+fn count_of(f: Field) -> Option<u16>
     ensures { result ≡ Records.count_of f }
 {
-    (f.number % 65536) as u16
+    u16::try_from(up_to(65535, f)?).ok()
 }
 
 // A limit has any five digits.
-fn limit_of(f: Field) -> u32
+fn limit_of(f: Field) -> Option<u32>
     ensures { result ≡ Records.limit_of f }
 {
-    f.number % 100000
+    up_to(99999, f)
 }
 
 // Z unit; L count.
 #[tactic(auto, unfolding(crate::specs::Records::two))]
-fn two(k: Field, u: Field) -> Record
+fn two(k: Field, u: Field) -> Option<Record>
     ensures { result ≡ Records.two k u }
 {
-    let z = (k.letter == b'Z') & is_unit(u);
-    if z {
-        return Record::Reset(u.letter);
+    match k.letter? {
+        b'Z' => Some(Record::Reset { unit: unit_of(u)? }),
+        b'L' => Some(Record::Ticks {
+            count: count_of(u)?,
+        }),
+        _ => None,
     }
-    let l = (k.letter == b'L') & up_to(65535, u);
-    if l {
-        return Record::Ticks(count_of(u));
-    }
-    Record::Shapeless
 }
 
 // R unit addr; B unit limit.
 #[tactic(auto, unfolding(crate::specs::Records::three))]
-fn three(k: Field, u: Field, a: Field) -> Record
-    ensures { result ≡ Records.three k u a }
+fn three(k: Field, u: Field, n: Field) -> Option<Record>
+    ensures { result ≡ Records.three k u n }
 {
-    let unit = is_unit(u);
-    let reads = (k.letter == b'R') & unit & up_to(255, a);
-    if reads {
-        return Record::Read(u.letter, byte_of(a));
+    match k.letter? {
+        b'R' => Some(Record::Read {
+            unit: unit_of(u)?,
+            address: byte_of(n)?,
+        }),
+        b'B' => Some(Record::Wait {
+            unit: unit_of(u)?,
+            limit: limit_of(n)?,
+        }),
+        _ => None,
     }
-    let waits = (k.letter == b'B') & unit & up_to(99999, a);
-    if waits {
-        return Record::Wait(u.letter, limit_of(a));
-    }
-    Record::Shapeless
 }
 
 // W unit addr value.
 #[tactic(auto, unfolding(crate::specs::Records::four))]
-fn four(k: Field, u: Field, a: Field, v: Field) -> Record
+fn four(k: Field, u: Field, a: Field, v: Field) -> Option<Record>
     ensures { result ≡ Records.four k u a v }
 {
-    let known = (k.letter == b'W') & is_unit(u) & up_to(255, a) & up_to(255, v);
-    if known {
-        return Record::Write(u.letter, byte_of(a), byte_of(v));
+    match k.letter? {
+        b'W' => Some(Record::Write {
+            unit: unit_of(u)?,
+            address: byte_of(a)?,
+            value: byte_of(v)?,
+        }),
+        _ => None,
     }
-    Record::Shapeless
 }
 
 // P unit dsr dcd cts.
 #[tactic(auto, unfolding(crate::specs::Records::five))]
-fn five(k: Field, u: Field, dsr: Field, dcd: Field, cts: Field) -> Record
+fn five(k: Field, u: Field, dsr: Field, dcd: Field, cts: Field) -> Option<Record>
     ensures { result ≡ Records.five k u dsr dcd cts }
 {
-    let known = (k.letter == b'P')
-        & is_unit(u)
-        & up_to(255, dsr)
-        & up_to(255, dcd)
-        & up_to(255, cts);
-    if known {
-        return Record::Pins(u.letter, byte_of(dsr), byte_of(dcd), byte_of(cts));
+    match k.letter? {
+        b'P' => Some(Record::Pins {
+            unit: unit_of(u)?,
+            dsr: byte_of(dsr)?,
+            dcd: byte_of(dcd)?,
+            cts: byte_of(cts)?,
+        }),
+        _ => None,
     }
-    Record::Shapeless
 }
 
 // The record of the line that these are the fields of.
 #[tactic(auto, unfolding(crate::specs::Records::held_record))]
-pub fn record_of(f: Fields) -> Record
+pub fn record_of(f: Fields) -> Option<Record>
     ensures { result ≡ Records.held_record f }
 {
-    if f.count == 1 {
-        return two(f.first, f.last);
+    let [k, u, a, b] = f.before;
+    match f.count {
+        1 => two(k, f.last),
+        2 => three(k, u, f.last),
+        3 => four(k, u, a, f.last),
+        4 => five(k, u, a, b, f.last),
+        _ => None,
     }
-    if f.count == 2 {
-        return three(f.first, f.second, f.last);
-    }
-    if f.count == 3 {
-        return four(f.first, f.second, f.third, f.last);
-    }
-    if f.count == 4 {
-        return five(f.first, f.second, f.third, f.fourth, f.last);
-    }
-    Record::Shapeless
 }

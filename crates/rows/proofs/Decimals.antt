@@ -3,17 +3,20 @@
 use mathlib.Core.Path.{◌≡◌, refl, ◌∙◌, ap}
 use mathlib.Core.List.{List, [], ◌∷◌, ◌++◌, append_assoc}
 use mathlib.Core.Bool.{Bool, true, false, cond}
-use Prim.Native.Nat.{ℕ, zero, suc, ◌+◌, ◌*◌, ◌/◌, ◌^◌, ◌≤◌, ◌<◌}
+use Prim.Native.Nat.{ℕ, zero, suc, ◌+◌, ◌*◌, ◌/◌, ◌%◌, ◌^◌, ◌≤◌, ◌<◌}
 use native.Mathlib.Omega.{arith}
-use native.Mathlib.Nat.{zero-add, suc-add, pow-suc, pow-le-pow_right}
+use native.Mathlib.Nat.{pow-suc}
 use borrow.Author.Tests.{lt-ltb, le-ltb, ltb-true, ltb-false}
 use lib.Dec.{ltb}
+use Rattle.std.specs.Prelude.{Option, Some, None}
 use lib.ListN.{length, length-append, get_or}
 use Rattle.line_rules.proofs.Choice.{each}
 use Rattle.fields.specs.Parted.{numeral}
 use Rattle.rows.specs.declared.Row.{Row}
-use Rattle.rows.specs.declared.Row.TheVariants.{Nothing, Value, Held, Waited, Refusal, Counts}
-use Rattle.rows.specs.Text.{glyph, two, four, digits, decimal, numbers, value_text, held_text, wait_text, refusal_text, counts_text, row_text}
+use Rattle.rows.specs.declared.Row.TheVariants.{Value, Held, Waited, Refusal, Counts}
+use Rattle.std.specs.Fmt.{decimal as printed}
+use Rattle.std.proofs.lemmas.Fmt.{decimal_by_steps}
+use Rattle.rows.specs.Text.{glyph, two, four, digits, decimal, ended, value_text, held_text, wait_text, refusal_text, counts_text, row_text}
 
 more : (xs : List ℕ) (x : ℕ) → length (xs ++ x ∷ []) ≡ suc (length xs)
 more xs x = length-append xs (x ∷ []) ∙ omega arith
@@ -37,27 +40,24 @@ pub decimal_short : (n : ℕ) → length (decimal n) ≤ 10
 unfolding decimal
 decimal_short n = digits_short 9 n
 
--- with its tab
-pub field_short : (n : ℕ) → length (9 ∷ decimal n) ≤ 11
-field_short n = omega (arith, decimal_short n)
-
--- of 0: a tab and one digit
-pub field_of_0 : length (9 ∷ decimal 0) ≤ 2
-unfolding decimal
-field_of_0 = omega arith
-
-numbers_short : (m n : ℕ) → length (numbers m n) ≤ 23
+-- the numbers that end a line: each with its tab, and the newline
+numbers_short : (m n : ℕ) → length (ended (m ∷ n ∷ [])) ≤ 23
 numbers_short m n = simp length-append (omega (arith, decimal_short m, decimal_short n))
 
+-- of 0: one digit
+zero_short : length (decimal 0) ≤ 1
+unfolding decimal
+zero_short = omega arith
+
 -- no line is longer than the room that is asked for it
-pub row_short : (r : Row) → length (row_text r) ≤ 32
+pub row_short : (r : Option Row) → length (row_text r) ≤ 32
 unfolding row_text value_text held_text wait_text refusal_text counts_text
-row_short Nothing = omega arith
-row_short (Value unit address v) = omega (arith, numbers_short address v)
-row_short (Held unit v t) = simp length-append (omega (arith, field_of_0, decimal_short v, decimal_short t.0))
-row_short (Waited unit count) = simp length-append (omega (arith, decimal_short count))
-row_short (Refusal line n) = omega (arith, numbers_short line n)
-row_short (Counts lines refusals) = omega (arith, numbers_short lines refusals)
+row_short None = omega arith
+row_short (Some (Value unit address v)) = omega (arith, numbers_short address v)
+row_short (Some (Held unit v t)) = simp length-append (omega (arith, zero_short, decimal_short v, decimal_short t.0))
+row_short (Some (Waited unit count)) = simp length-append (omega (arith, decimal_short count))
+row_short (Some (Refusal line n)) = omega (arith, numbers_short line n)
+row_short (Some (Counts lines refusals)) = omega (arith, numbers_short lines refusals)
 
 pub decimal_one : (n : ℕ) → n < 10 → decimal n ≡ glyph n ∷ []
 unfolding decimal
@@ -71,27 +71,8 @@ module _ (n : ℕ) (h : n < 4294967296) (some : 10 ≤ n) where
   unfolding decimal
   decimal_more = rw (le-ltb n 10 some, tenth)
 
--- a number of at most k + 1 digits, where more are asked for
-digits_fit : (j k n : ℕ) → n < 10 ^ suc k → digits (j + k) n ≡ digits k n
-digits_fit zero k n h = rw zero-add refl
-digits_fit (suc j) k n h =
-    let p = pow-le-pow_right {n = 10} (omega arith) {i = suc k} {j = suc (j + k)} (omega arith) in
-    rw suc-add (digits_enough (j + k) n (omega (arith, p)) ∙ digits_fit j k n h)
-
--- the room of a number below 100, and of one below 10000
-pub two_short : (n : ℕ) → n < 100 → length (decimal n) ≤ 2
-unfolding decimal
-two_short n h = rw (digits_fit 8 1 n h) (digits_short 1 n)
-
-pub four_short : (n : ℕ) → n < 10000 → length (decimal n) ≤ 4
-unfolding decimal
-four_short n h = rw (digits_fit 6 3 n h) (digits_short 3 n)
-
 -- several digits at a time
-pub decimal_two : (n : ℕ) → 10 ≤ n → n < 100 → decimal n ≡ two n
-decimal_two n some h = rw (decimal_more n (omega arith) some, decimal_one (n / 10) (omega arith)) refl
-
-pub decimal_two_more : (n : ℕ) → n < 4294967296 → 100 ≤ n → decimal n ≡ decimal (n / 100) ++ two n
+decimal_two_more : (n : ℕ) → n < 4294967296 → 100 ≤ n → decimal n ≡ decimal (n / 100) ++ two n
 decimal_two_more n h some =
     let e : n / 10 / 10 ≡ n / 100 = omega arith in
     decimal_more n h (omega arith)
@@ -104,6 +85,16 @@ decimal_four_more n h some =
     decimal_two_more n h (omega arith)
     ∙ ap (λ (l : List ℕ). l ++ two n) (decimal_two_more (n / 100) (omega arith) (omega arith) ∙ ap (λ (m : ℕ). decimal m ++ two (n / 100)) e)
     ∙ append_assoc (decimal (n / 10000)) (two (n / 100)) (two n)
+
+-- the library's text of a number
+pub library_decimal : (n : ℕ) → n < 4294967296 → printed n ≡ decimal n
+library_decimal n h = decimal_by_steps (λ m ds. m < 4294967296 → ds ≡ decimal m) one further n (omega arith) h
+  where
+    one : (m : ℕ) → m < 10 → m < 4294967296 → (48 + m) ∷ [] ≡ decimal m
+    one m small low = let e : m % 10 ≡ m = omega arith in rw (decimal_one m small, e) refl
+
+    further : (m : ℕ) (ds : List ℕ) → 10 ≤ m → (m / 10 < 4294967296 → ds ≡ decimal (m / 10)) → m < 4294967296 → ds ++ (48 + m % 10) ∷ [] ≡ decimal m
+    further m ds some p low = rw (decimal_more m low some, ← p (omega arith)) refl
 
 -- == what the numbers are ==
 

@@ -10,6 +10,10 @@ use native.Mathlib.Omega.{arith}
 use native.Mathlib.Nat.{add-zero, add-suc, suc-add}
 use lib.ListN.{length, take, drop, length-append, take-append-drop}
 use lib.Seq.{sets, length-sets, sets-eq, take-append_seam, drop-append_seam}
+use borrow.Rule.Slice.PartMut.{put_mid}
+use lib.Seq.{take-length}
+use Rattle.std.proofs.lemmas.Slice.{put_mid-paste}
+use Rattle.line_rules.proofs.Choice.{each}
 use Rattle.rows.specs.Text.{Put, Spoke, where_room}
 
 sets_append : (l : List ℕ) (i : ℕ) (a b : List ℕ) → sets l i (a ++ b) ≡ sets (sets l i a) (i + length a) b
@@ -68,7 +72,13 @@ spoke_put {l} {t = t} p h =
 pub spoke_one : {before text a b : List ℕ} {r s : ℕ} → Spoke before text a r → Spoke before text b s → (r ≡ s) × (a ≡ b)
 spoke_one p q = (spoke_at p ∙ sym (spoke_at q), spoke_buffer p ∙ sym (spoke_buffer q))
 
--- == room for a line ==
+-- a text copied to its place
+pub copied : {l t m : List ℕ} (at : ℕ) → m ≡ t → at + length t ≤ length l → Put l at t (put_mid at (at + length t - at) l m) (at + length t)
+copied {l} {t} {m} at e h =
+    record {
+      stored = put_mid-paste at (at + length t - at) l m t (length t) e (omega arith) refl ∙ rw take-length (sym (sets-eq t l at h));
+      next = refl;
+    }
 
 -- == room for a line ==
 
@@ -81,6 +91,10 @@ room_is size at h = go (leb 32 (size - at)) refl
     go : (t : Bool) → leb 32 (size - at) ≡ t → t ≡ leb (at + 32) size
     go true e = sym (le-leb (at + 32) size (omega (arith, leb-true 32 (size - at) e)))
     go false e = sym (lt-leb (at + 32) size (omega (arith, leb-false 32 (size - at) e)))
+
+-- no line is none, whatever the room
+pub nothing_put : (l : List ℕ) (at : ℕ) → Put l at (where_room l at []) l at
+nothing_put l at = each (λ (t : List ℕ). Put l at t l at) (leb (at + 32) (length l)) (λ e. none_put l at) (λ e. none_put l at)
 
 -- a line that has room is written
 pub written : {l m t : List ℕ} {at r : ℕ} → at + 32 ≤ length l → Put l at (where_room l at t) m r → Put l at t m r

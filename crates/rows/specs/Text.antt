@@ -1,12 +1,12 @@
 -- The text of the output: document 01, "The session text", request P4's read of address 0 and request P12's wait.
 -- Fields are parted by one tab, and numbers are decimal without leading zeros.
 -- Assumes nothing.
-use Rattle.std.specs.Prelude.{ℕ, zero, suc, ◌+◌, ◌/◌, ◌%◌, ◌≤◌, ◌≡◌, cond, List, [], ◌∷◌, ◌++◌, ltb, leb, length, take, drop}
+use Rattle.std.specs.Prelude.{ℕ, zero, suc, ◌+◌, ◌/◌, ◌%◌, ◌≤◌, ◌≡◌, cond, List, [], ◌∷◌, ◌++◌, ltb, leb, length, take, drop, Option, Some, None}
 use Prim.Native.Char.{code}
 use Rattle.std.proofs.lemmas.List.Edits.{sets}
 use Rattle.line_rules.specs.declared.RxC.{RxC}
 use Rattle.rows.specs.declared.Row.{Row}
-use Rattle.rows.specs.declared.Row.TheVariants.{Nothing, Value, Held, Waited, Refusal, Counts}
+use Rattle.rows.specs.declared.Row.TheVariants.{Value, Held, Waited, Refusal, Counts}
 
 -- == numbers ==
 
@@ -46,13 +46,14 @@ row fields = tabbed fields (code "\n" ∷ [])
 abbrev pub letter : ℕ → List ℕ
 letter b = b ∷ []
 
--- the letter and the unit that begin a line
-abbrev pub letters : ℕ → ℕ → List ℕ
-letters kind unit = kind ∷ code "\t" ∷ unit ∷ []
+-- the numbers that end a line, each behind its tab
+abbrev pub ended : List ℕ → List ℕ
+ended [] = code "\n" ∷ []
+ended (n ∷ ns) = code "\t" ∷ (decimal n ++ ended ns)
 
--- the two numbers that end a line, each behind its tab
-abbrev pub numbers : ℕ → ℕ → List ℕ
-numbers m n = code "\t" ∷ (decimal m ++ code "\t" ∷ (decimal n ++ code "\n" ∷ []))
+-- a line of what it begins with and of numbers
+abbrev pub line : List ℕ → List ℕ → List ℕ
+line head ns = head ++ ended ns
 
 -- E, line number, refusal
 unfoldable pub refusal_text : ℕ → ℕ → List ℕ
@@ -75,13 +76,13 @@ unfoldable pub counts_text : ℕ → ℕ → List ℕ
 counts_text lines refusals = row (letter (code "N") ∷ decimal lines ∷ decimal refusals ∷ [])
 
 -- document 01's letter and values for each case, and those of requests P4 and P12
-unfoldable pub row_text : Row → List ℕ
-row_text Nothing = []
-row_text (Value unit address v) = value_text unit address v
-row_text (Held unit v t) = held_text unit v t
-row_text (Waited unit count) = wait_text unit count
-row_text (Refusal line n) = refusal_text line n
-row_text (Counts lines refusals) = counts_text lines refusals
+unfoldable pub row_text : Option Row → List ℕ
+row_text None = []
+row_text (Some (Value unit address v)) = value_text unit address v
+row_text (Some (Held unit v t)) = held_text unit v t
+row_text (Some (Waited unit count)) = wait_text unit count
+row_text (Some (Refusal line n)) = refusal_text line n
+row_text (Some (Counts lines refusals)) = counts_text lines refusals
 
 -- == text in a buffer ==
 

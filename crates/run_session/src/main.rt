@@ -3,242 +3,186 @@
 // where no read and no write failed, for any reader and any writer; what a system call moves stays outside.
 #![tactic(auto)]
 
-ghost use Rattle.std.specs.Prelude.{◌≡◌, true, false, take, IfOk, OnErr};
-ghost use Rattle.rows.specs.Text.{Spoke};
+ghost use Rattle.std.specs.Prelude.{◌≡◌, ℕ, Err, take, IfOk, OnOk, OnErr};
 ghost use Rattle.std.specs.Io.KnownBytes.{Appends};
-ghost use Rattle.session_rules.specs.Bytes.{said_all};
+ghost use Rattle.session_rules.specs.Bytes.{fresh, said_all};
 ghost use Rattle.run_session.specs.Goes.{TookSome, TookAll, Answered, Fed, last_of, refused_of};
 ghost use Rattle.run_session.specs.Passing.{Passed, AnswersAll};
 
 use session_rules::Session;
-use std::io;
 use std::io::{Read, Write};
+use std::{fmt, io};
 
-// The session so far: whether more of the input is wanted, whether the rest stays unread (document 01, "The session text"), and
-// whether reading or writing failed.
-#[derive(Clone, Copy)]
-struct Went {
-    session: Session,
-    more: bool,
-    rest: bool,
-    failed: bool,
+// What comes behind a piece of the input: more of it is wanted; no more, at the input's end or behind the last line that is taken; no more, and
+// the rest stays unread (document 01, "The session text").
+#[derive(Clone, Copy, Debug, PartialEq, Eq)]
+enum Next {
+    More,
+    Ended,
+    RestUnread,
 }
 
-// One call of `feed`: the session after it, how many bytes it took, and whether its text was written.
-#[derive(Clone, Copy)]
-struct Took {
-    session: Session,
-    used: usize,
-    written: bool,
+// Why a session ends without its counts.
+#[derive(Clone, Copy, Debug, PartialEq, Eq)]
+enum Failed {
+    Unread,
+    Unwritten,
 }
 
-fn failed(s: Session) -> Went
-    ensures { result.failed ≡ true }
-{
-    Went {
-        session: s,
-        more: false,
-        rest: false,
-        failed: true,
+impl fmt::Display for Failed {
+    fn fmt<W: fmt::Write>(&self, f: &mut fmt::Formatter<W>) -> fmt::Result {
+        match self {
+            Failed::Unread => write!(f, "the input could not be read, so the counts are left out"),
+            Failed::Unwritten => write!(f, "the output could not be written"),
+        }
     }
 }
 
-// A word on standard error. One that cannot be written changes nothing.
-fn say(words: &impl Eprint, text: &str) {
-    let _ = eprintln!(words; "session: {text}");
-}
+// The output and the session stay two parameters: a struct of both would be of two borrows, and would stand in each clause.
 
-fn unread(words: &impl Eprint, s: Session) -> Went
-    ensures { result.failed ≡ true }
+// The text is written before more is read, so that a line typed at a terminal is answered when it is entered. Answers how many bytes it took.
+fn feed<W: Write>(output: &mut W, s: &mut Session, piece: &[u8]) -> Result<usize, Failed>
+    ensures took { (used : ℕ) × TookSome s.old piece.now s.new used × IfOk result (λ n. n ≡ used) }
+    ensures wrote { IfOk result (λ n. Appends (W.contents output.old) (W.contents output.new) (said_all s.old (take n piece.now))) }
 {
-    say(
-        words,
-        "the input could not be read, so the counts are left out",
-    );
-    failed(s)
-}
-
-fn unwritten(words: &impl Eprint, s: Session) -> Went
-    ensures { result.failed ≡ true }
-{
-    say(words, "the output could not be written");
-    failed(s)
-}
-
-// The text is written before more is read, so that a line typed at a terminal is answered when it is entered.
-fn feed<W: Write>(output: &mut W, s: Session, piece: &[u8]) -> Took
-    ensures took { TookSome s piece.now result }
-    ensures wrote { result.written ≡ true → Appends (W.contents output.old) (W.contents output.new) (said_all s (take result.used piece.now)) }
-{
-    let mut out = [0u8; 65536];
-    let t = session::feed(s, piece, &mut out);
-    let at = t.at;
-    let next = t.session;
-    Took {
-        session: next,
-        used: t.used,
-        written: output.write_all(&out[..at]).is_ok(),
-    }
+    let mut out = [0u8; 65536]; // fixed memory, of which `session::feed` tells how much it filled
+    let fed = session::feed(s, piece, &mut out);
+    output
+        .write_all(&out[..fed.at])
+        .map_err(|_| Failed::Unwritten)?;
+    Ok(fed.used)
 }
 
 // Feeds all of a piece; its text may need several buffers. After the last line that is taken no more is wanted, so that an
 // endless input ends too.
-fn feed_all<W: Write, E: Eprint>(output: &mut W, words: &E, s: Session, piece: &[u8]) -> Went
-    ensures took { result.failed ≡ false → TookAll s piece.now result }
-    ensures wrote { result.failed ≡ false → Appends (W.contents output.old) (W.contents output.new) (said_all s piece.now) }
+fn feed_all<W: Write>(output: &mut W, s: &mut Session, piece: &[u8]) -> Result<Next, Failed>
+    ensures took { IfOk result (λ next. TookAll s.old piece.now s.new next) }
+    ensures wrote { OnOk result (Appends (W.contents output.old) (W.contents output.new) (said_all s.old piece.now)) }
 {
-    let mut session = s;
-    let mut from = 0;
-    while from < piece.len() {
-        let t = feed(output, session, &piece[from..]);
-        let next = t.session;
-        session = next;
-        if !t.written {
-            return unwritten(words, session);
-        }
-        from = from + t.used;
+    let mut rest = piece;
+    while !rest.is_empty() {
+        let used = feed(output, s, rest)?;
+        rest = &rest[used..];
     }
-    Went {
-        session,
-        more: session.lines < 65535,
-        rest: false,
-        failed: false,
+    if s.lines < 65535 {
+        Ok(Next::More)
+    } else {
+        Ok(Next::Ended)
     }
 }
 
 // Answers a piece of the input; no byte is the input's end. The last byte of a piece is fed by itself: where no line is taken
 // any more when it comes, the rest stays unread.
-fn answered<W: Write, E: Eprint>(output: &mut W, words: &E, s: Session, piece: &[u8]) -> Went
-    ensures answered { result.failed ≡ false → Answered s piece.now result }
-    ensures wrote { result.failed ≡ false → Appends (W.contents output.old) (W.contents output.new) (said_all s piece.now) }
+fn answered<W: Write>(output: &mut W, s: &mut Session, piece: &[u8]) -> Result<Next, Failed>
+    ensures answered { IfOk result (λ next. Answered s.old piece.now s.new next) }
+    ensures wrote { OnOk result (Appends (W.contents output.old) (W.contents output.new) (said_all s.old piece.now)) }
 {
-    if piece.len() == 0 {
-        return Went {
-            session: s,
-            more: false,
-            rest: false,
-            failed: false,
-        };
+    if piece.is_empty() {
+        return Ok(Next::Ended);
     }
     let last = piece.len() - 1;
-    let start = feed_all(output, words, s, &piece[..last]);
-    if start.failed {
-        return start;
-    }
-    let before = start.session;
-    if start.more {
-        return feed_all(output, words, before, &piece[last..]);
-    }
-    Went {
-        session: before,
-        more: false,
-        rest: true,
-        failed: false,
+    match feed_all(output, s, &piece[..last])? {
+        Next::More => feed_all(output, s, &piece[last..]),
+        _ => Ok(Next::RestUnread),
     }
 }
 
 // Answers what a read left in the buffer: as many bytes as it says, and never more than there are.
-fn after_read<W: Write, E: Eprint>(
+fn after_read<W: Write>(
     output: &mut W,
-    words: &E,
-    s: Session,
+    s: &mut Session,
     got: io::Result<usize>,
     buf: &[u8],
-) -> Went
-    ensures answered { result.failed ≡ false → IfOk got (λ n. Answered s (take n buf.now) result) }
-    ensures wrote { result.failed ≡ false → IfOk got (λ n. Appends (W.contents output.old) (W.contents output.new) (said_all s (take n buf.now))) }
-    ensures unread { OnErr got (result.failed ≡ true) }
+) -> Result<Next, Failed>
+    ensures answered { IfOk result (λ next. IfOk got (λ n. Answered s.old (take n buf.now) s.new next)) }
+    ensures wrote { OnOk result (IfOk got (λ n. Appends (W.contents output.old) (W.contents output.new) (said_all s.old (take n buf.now)))) }
+    ensures unread { OnErr got (result ≡ Err Failed.Unread) }
 {
-    match got {
-        Ok(n) => {
-            let n = n.min(buf.len());
-            answered(output, words, s, &buf[..n])
-        }
-        Err(_) => unread(words, s),
-    }
+    let n = got.map_err(|_| Failed::Unread)?.min(buf.len());
+    answered(output, s, &buf[..n])
 }
 
-fn read<R: Read, W: Write, E: Eprint>(input: &mut R, output: &mut W, words: &E, s: Session) -> Went
-    ensures fed { result.failed ≡ false → Fed s result }
-    ensures passed { result.failed ≡ false → Passed s 1 (R.remaining input.old) (R.remaining input.new) (W.contents output.old) (W.contents output.new) result }
+fn read<R: Read, W: Write>(input: &mut R, output: &mut W, s: &mut Session) -> Result<Next, Failed>
+    ensures fed { IfOk result (λ next. Fed s.old s.new next) }
+    ensures passed { IfOk result (λ next. Passed s.old 1 (R.remaining input.old) (R.remaining input.new) (W.contents output.old) (W.contents output.new) s.new next) }
 {
-    let mut buf = [0u8; 65536];
+    let mut buf = [0u8; 65536]; // fixed memory, of which `Read::read` tells how much it filled
     let got = input.read(&mut buf);
-    after_read(output, words, s, got, &buf)
+    after_read(output, s, got, &buf)
 }
 
 // A proved loop has to end, so this one counts its reads, up to a number that no run uses up.
-fn whole<R: Read, W: Write, E: Eprint>(input: &mut R, output: &mut W, words: &E, s: Session) -> Went
-    ensures fed { result.failed ≡ false → Fed s result }
-    ensures passed { result.failed ≡ false → Passed s u64.MAX (R.remaining input.old) (R.remaining input.new) (W.contents output.old) (W.contents output.new) result }
+fn whole<R: Read, W: Write>(input: &mut R, output: &mut W, s: &mut Session) -> Result<Next, Failed>
+    ensures fed { IfOk result (λ next. Fed s.old s.new next) }
+    ensures passed { IfOk result (λ next. Passed s.old u64.MAX (R.remaining input.old) (R.remaining input.new) (W.contents output.old) (W.contents output.new) s.new next) }
 {
-    let mut w = Went {
-        session: s,
-        more: true,
-        rest: false,
-        failed: false,
-    };
     for _ in 0..u64::MAX {
-        if w.failed | !w.more {
-            return w;
+        let next = read(input, output, s)?;
+        if next != Next::More {
+            return Ok(next);
         }
-        w = read(input, output, words, w.session);
     }
-    w
+    Ok(Next::More)
 }
 
-// The last line and the counts, where all of the input was answered, and else nothing.
-fn ending(w: Went, out: &mut [u8; 64]) -> usize
-    ensures { Spoke out.old (last_of w) out.new result }
+// The last line and the counts, where all of the input was answered; after a failure nothing.
+fn ending<W: Write>(output: &mut W, s: &Session, went: Result<Next, Failed>) -> Result<Next, Failed>
+    ensures same { IfOk result (λ next. IfOk went (λ before. next ≡ before)) }
+    ensures wrote { OnOk result (Appends (W.contents output.old) (W.contents output.new) (last_of went s.now)) }
+    ensures failed { OnErr went (result ≡ went) }
+    ensures nothing { OnErr went (output.new ≡ output.old) }
 {
-    if w.failed {
-        return 0;
-    }
-    session::finish(w.session, out)
+    let next = went?;
+    let mut out = [0u8; 64];
+    let n = session::finish(s, &mut out);
+    output.write_all(&out[..n]).map_err(|_| Failed::Unwritten)?;
+    Ok(next)
 }
 
 // A session from its begin to its end. The counts come last, and after a failure nothing.
-fn run<R: Read, W: Write, E: Eprint>(input: &mut R, output: &mut W, words: &E) -> Went
-    ensures { result.failed ≡ false → AnswersAll (R.remaining input.old) (W.contents output.old) (W.contents output.new) }
+fn run<R: Read, W: Write>(input: &mut R, output: &mut W) -> Result<(Session, Next), Failed>
+    ensures { OnOk result (AnswersAll (R.remaining input.old) (W.contents output.old) (W.contents output.new)) }
 {
-    let w = whole(input, output, words, session::begin());
-    let mut out = [0u8; 64];
-    let n = ending(w, &mut out);
-    if output.write_all(&out[..n]).is_err() {
-        return unwritten(words, w.session);
-    }
-    w
+    let mut s = session::begin();
+    let went = whole(input, output, &mut s);
+    let next = ending(output, &s, went)?;
+    Ok((s, next))
 }
 
 // How many lines were refused, the last one too where it lacks its newline.
-fn refused(s: Session) -> u16
-    ensures { result ≡ refused_of s }
+fn refused(s: &Session) -> u16
+    ensures { result ≡ refused_of s.now }
 {
     if 0 < s.length {
-        let mut out = [0u8; 4096];
-        let t = session::feed(s, b"\n", &mut out);
-        let ended = t.session;
+        let mut ended = *s;
+        session::feed(&mut ended, b"\n", &mut [0u8; 4096]);
         return ended.refusals;
     }
     s.refusals
 }
 
+// A word on standard error. One that cannot be written changes nothing.
+fn say(words: &impl Eprint, text: impl fmt::Display + Drop) {
+    let _ = eprintln!(words; "session: {text}");
+}
+
 // Words on standard error where the whole input was answered and written: they are no part of the output. That the last line
 // was taken is for `./session`, which looks whether there is a rest.
-fn tell(words: &impl Eprint, w: Went, refusals: u16) {
-    if w.rest {
+fn tell(words: &impl Eprint, s: &Session, next: Next) {
+    if next == Next::RestUnread {
         say(words, "lines after the 65,535th stayed unread");
-    } else if w.session.lines == 65535 {
+    } else if s.lines == 65535 {
         say(words, "65,535 lines are taken");
     }
+    let refusals = refused(s);
     if 0 < refusals {
-        let _ = eprintln!(words; "session: lines refused: {refusals}");
+        say(words, format_args!("lines refused: {refusals}"));
     }
 }
 
 fn main(rt: HostRuntime) {
-    let w = run(&mut rt.stdin(), &mut rt.stdout(), &rt);
-    if !w.failed {
-        tell(&rt, w, refused(w.session));
+    match run(&mut rt.stdin(), &mut rt.stdout()) {
+        Ok((s, next)) => tell(&rt, &s, next),
+        Err(failed) => say(&rt, failed),
     }
 }

@@ -2,7 +2,6 @@
 -- character there, and those that are refused. Demand 3 reads on the session too.
 -- Assumes nothing.
 use Prim.Native.Nat.{ℕ}
-use Prim.Native.Char.{code}
 use borrow.Author.Tests.{ltb-true, leb-true}
 use mathlib.Core.Path.{◌≡◌, refl}
 use mathlib.Core.List.{List, [], ◌∷◌, ◌++◌}
@@ -23,7 +22,7 @@ use Rattle.ins2651_rules.specs.Stamps.{stamp}
 use Rattle.ins2651_rules.specs.Ticks.{transmit_tick, transmit, receive_tick, receive}
 use Rattle.ins2651_rules.specs.Runs as chip
 use Rattle.joined_rules.specs.Joining.{tick}
-use Rattle.joined_rules.specs.declared.Unit.TheVariants as unit
+use Rattle.line_rules.specs.declared.Unit.TheVariants as unit
 use Rattle.joined_rules.specs.Waiting.{wait}
 use Rattle.delivery.specs.Promise.{Finished}
 use Rattle.delivery.specs.Joined.{Side, A, B}
@@ -112,4 +111,4 @@ pub awaiting_stops :
 unfolding awaiting_meets answer_text lines_taken lines_of two three four five obey line_reply wait decimal refusal_text value_text held_text wait_text counts_text row_text said_text field_of fields_of part odd_ones parity_bit sample link-transmitting.transmit link-hearing.receive line-range.in_range sender_in_range receiver_in_range format_of status_byte in_range settled write_refusal read_register read write_register write pinned set_pins transmit_tick transmit receive_tick receive stamp tick
 awaiting_stops =
     text_waits bench.one_stop bench.two_stops bench.one_stop_proper bench.two_stops_proper bench.stops_agree unit.B awaiting_lines awaiting_meets (ltb-true 0 1 refl) 21 (bytes "B\tB\t21")
-    (print_printed (Wait (code "B") 21) refl) (leb-true 21 21 refl) (leb-true 21 65535 refl)
+    (print_printed (Wait unit.B 21) refl) (leb-true 21 21 refl) (leb-true 21 65535 refl)

@@ -17,10 +17,9 @@ use Rattle.fields.specs.Reading.{empty, push, pushes}
 use Rattle.fields.proofs.Gathered.{counted_is, onto, onto_first, onto_none, fields_held}
 use Rattle.line_rules.proofs.Choice.{either}
 use Rattle.joined_rules.specs.declared.Pair.{Pair}
-use Rattle.session_rules.specs.declared.Said.{Said}
 use Rattle.session_rules.specs.declared.Session.{Session}
 use Rattle.records.proofs.Held.{held_record_lem}
-use Rattle.session_rules.specs.Calls.{line_reply, number, said_text}
+use Rattle.session_rules.specs.Calls.{Said, line_reply, number, said_text}
 use Rattle.rows.specs.Text.{counts_text}
 use Rattle.session_rules.specs.Rows.{newlines, lacking}
 use Rattle.session_rules.specs.Whole.{unless_empty, filled, lines_of, lines_taken, answers, refusals, texts, whole, answer_text}

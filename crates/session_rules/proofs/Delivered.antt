@@ -2,16 +2,15 @@
 -- stamp of its arrival.
 -- Assumes nothing.
 use Prim.Native.Nat.{ℕ, zero, suc}
-use mathlib.Core.Path.{◌≡◌, refl, sym, ap, ap₂, subst, ◌∙◌}
+use mathlib.Core.Path.{◌≡◌, refl, sym, ap, subst, ◌∙◌}
 use mathlib.Core.Bool.{Bool, true, false, cond, ◌&&◌, false≢true}
 use mathlib.Core.List.{List, [], ◌∷◌, ◌++◌, map, map-append}
-use lib.Dec.{eqb, leb}
+use lib.Dec.{eqb}
 use lib.ListN.{replicate}
 use borrow.Author.Tests.{eqb-true}
 use Rattle.line_rules.specs.declared.Format.{Format}
 use Rattle.line_rules.specs.declared.RxC.{RxC}
 use Rattle.line_rules.proofs.Choice.{either}
-use Rattle.line_rules.proofs.Table.{both}
 use Rattle.fields.specs.Parted.{fields_of}
 use Rattle.ins2651_rules.specs.Runs as chip
 use Rattle.ins2651_rules.specs.RegisterReads.{read_register, read}
@@ -27,19 +26,19 @@ use Rattle.delivery.specs.Joined.{Side, A, B, other}
 use Rattle.joined_rules.specs.declared.Pair.{Pair}
 use Rattle.joined_rules.specs.Bench.{device_at, Step, Tick, At, moved, all_moved, just_reset, deed_from, way_from}
 use Rattle.joined_rules.specs.Demand3.{Settings, settings_at, Proper, sends, Agree}
-use Rattle.joined_rules.specs.Waiting.{wait}
+use Rattle.joined_rules.specs.Waiting.{side_of, wait}
 use Rattle.joined_rules.proofs.Order.{one_way_in_order, one_way_reads_stamped, run_in_order, run_reads_stamped}
 use Rattle.records.specs.declared.Record.{Record}
-use Rattle.records.specs.declared.Record.TheVariants.{Write, Read, Pins, Reset, Wait, Shapeless}
+use Rattle.records.specs.declared.Record.TheVariants.{Write, Read, Pins, Reset, Wait}
 use Rattle.records.specs.declared.Record.TheVariants as kind
-use Rattle.records.specs.Records.{a_unit, record_of}
-use Rattle.records.specs.Printed.{proper}
-use Rattle.records.proofs.Parser.{reads_printed}
+use Rattle.records.specs.Records.{record_of}
+use Rattle.std.specs.Prelude.{Option, Some, None}
+use Rattle.line_rules.specs.declared.Unit.{Unit}
+use Rattle.line_rules.specs.declared.Unit.TheVariants as unit
 use Rattle.rows.specs.Text.{row_text}
-use Rattle.session_rules.specs.declared.Said.{Said}
-use Rattle.session_rules.specs.Calls.{unit_of, obey, line_reply, said_text}
-use Rattle.session_rules.specs.Rows.{overlong, shapeless}
-use Rattle.session_rules.specs.Steps.{side, record_steps, line_steps, all_steps}
+use Rattle.session_rules.specs.Calls.{Said, obey, obey_known, line_reply, said_text}
+use Rattle.session_rules.specs.Rows.{overlong}
+use Rattle.session_rules.specs.Steps.{record_steps, line_steps, all_steps}
 use Rattle.session_rules.specs.Whole.{answers, line_texts}
 use Rattle.session_rules.specs.Delivered.{Meets, format_from, MeetsFrom, letter_at, is_read, fetches, fetching, marked, printed, line, Shows, Delivers}
 use Rattle.session_rules.proofs.Lines.{line_moves}
@@ -102,24 +101,24 @@ takes_none u c Reads h = absurd (false≢true (sym h))
 takes_none u c Passes h = refl
 
 -- a read of address 0 prints what the device holds, with its stamp
-read_said : (s : Side) (n : ℕ) (p : Pair) → said_text n (obey p (Read (letter_at s) 0)).said ≡ line (letter_at s) (held (device_at s p))
+read_said : (u : Unit) (n : ℕ) (p : Pair) → said_text n (obey p (Read u 0)).said ≡ line (letter_at (side_of u)) (held (device_at (side_of u) p))
 unfolding obey said_text row_text read read_register
-read_said A n p = refl
-read_said B n p = refl
+read_said unit.A n p = refl
+read_said unit.B n p = refl
 
 -- a read on the way from this side is one of address 0 at the other
-at_read : (s : Side) (p : Pair) (unit address : ℕ) → a_unit unit ≡ true → is_read (deed_from s p (At (side unit) (chip.Read address))) ≡ true → (unit ≡ letter_at (other s)) × (address ≡ 0)
-at_read s p unit address h r = by_unit s (eqb unit 65) refl r
+at_read : (s : Side) (p : Pair) (u : Unit) (address : ℕ) → is_read (deed_from s p (At (side_of u) (chip.Read address))) ≡ true → (side_of u ≡ other s) × (address ≡ 0)
+at_read s p u address r = by_unit s u r
   where
     zero_is : (t : Bool) → eqb address 0 ≡ t → is_read (cond t Reads Passes) ≡ true → address ≡ 0
     zero_is true e q = eqb-true address 0 e
     zero_is false e q = absurd (false≢true q)
 
-    by_unit : (s : Side) (t : Bool) → eqb unit 65 ≡ t → is_read (deed_from s p (At (side unit) (chip.Read address))) ≡ true → (unit ≡ letter_at (other s)) × (address ≡ 0)
-    by_unit A true e q = absurd (false≢true (rw e at q))
-    by_unit A false e q = (eqb-true unit 66 (rw e at h), zero_is (eqb address 0) refl (rw e at q))
-    by_unit B true e q = (eqb-true unit 65 e, zero_is (eqb address 0) refl (rw e at q))
-    by_unit B false e q = absurd (false≢true (rw e at q))
+    by_unit : (s : Side) (u : Unit) → is_read (deed_from s p (At (side_of u) (chip.Read address))) ≡ true → (side_of u ≡ other s) × (address ≡ 0)
+    by_unit A unit.A q = absurd (false≢true q)
+    by_unit A unit.B q = (refl, zero_is (eqb address 0) refl q)
+    by_unit B unit.A q = (refl, zero_is (eqb address 0) refl q)
+    by_unit B unit.B q = absurd (false≢true q)
 
 -- no other call is a read
 no_read : (s t : Side) (p : Pair) (c : chip.Call) → reads 0 c ≡ false → is_read (deed_from s p (At t c)) ≡ false
@@ -129,18 +128,18 @@ no_read B A p c h = rw h
 no_read B B p c h = either (λ (k : Deed). is_read k ≡ false) (writes_holding c) refl refl
 
 module _ (s : Side) (n : ℕ) (p : Pair) (rest : List (List ℕ)) where
-  abbrev unit : ℕ
-  unit = letter_at (other s)
+  abbrev letter : ℕ
+  letter = letter_at (other s)
 
   -- what is printed for these steps of a line that says so
   abbrev Prints : List Step → Said → Type 0
-  Prints xs said = cond (fetches s p xs) (said_text n said ∷ rest) rest ≡ map (line unit) (takes s p xs) ++ rest
+  Prints xs said = cond (fetches s p xs) (said_text n said ∷ rest) rest ≡ map (line letter) (takes s p xs) ++ rest
 
   -- a call that is no read
   silent : (t : Side) (c : chip.Call) (said : Said) → reads 0 c ≡ false → Prints (At t c ∷ []) said
   silent t c said h =
       let z = no_read s t p c h in
-      rw z (ap (λ (hs : List Held). map (line unit) hs ++ rest) (sym (takes_none (unread (device_at (other s) p)) (held (device_at (other s) p)) (deed_from s p (At t c)) z)))
+      rw z (ap (λ (hs : List Held). map (line letter) hs ++ rest) (sym (takes_none (unread (device_at (other s) p)) (held (device_at (other s) p)) (deed_from s p (At t c)) z)))
 
   ticks_print : (k : ℕ) (said : Said) → Prints (replicate k Tick) said
   ticks_print zero said = refl
@@ -150,32 +149,28 @@ module _ (s : Side) (n : ℕ) (p : Pair) (rest : List (List ℕ)) where
       side_prints A = rw (ticks_take A k (moved p Tick))
       side_prints B = rw (ticks_take B k (moved p Tick))
 
-  record_prints : (r : Record) → (shapeless r ≡ false → proper r ≡ true) → Prints (record_steps p r) (obey p r).said
-  record_prints (Write u address v) h = silent (side u) (chip.Write address v) (obey p (Write u address v)).said refl
-  record_prints (Read u address) h =
-      one_step unit (held (device_at (other s) p)) (deed_from s p (At (side u) (chip.Read address))) (unread (device_at (other s) p))
+  record_prints : (r : Option Record) → Prints (record_steps p r) (obey_known p r).said
+  record_prints (Some (Write u address v)) = silent (side_of u) (chip.Write address v) (obey p (Write u address v)).said refl
+  record_prints (Some (Read u address)) =
+      one_step letter (held (device_at (other s) p)) (deed_from s p (At (side_of u) (chip.Read address))) (unread (device_at (other s) p))
       (said_text n (obey p (Read u address)).said) rest
-      (λ r. let e = at_read s p u address (both (a_unit u) (leb address 255) (h refl)).0 r in
-      ap₂ (λ (x y : ℕ). said_text n (obey p (Read x y)).said) e.0 e.1 ∙ read_said (other s) n p)
-  record_prints (Pins u dsr dcd cts) h = silent (side u) (chip.SetPins dsr dcd cts) (obey p (Pins u dsr dcd cts)).said refl
-  record_prints (Reset u) h = silent (side u) chip.Reset (obey p (Reset u)).said refl
-  record_prints (kind.Ticks count) h = ticks_print count (obey p (kind.Ticks count)).said
-  record_prints (Wait u limit) h = ticks_print (wait p (unit_of u) limit).count (obey p (Wait u limit)).said
-  record_prints Shapeless h = refl
+      (λ r. let e = at_read s p u address r in
+      ap (λ (a : ℕ). said_text n (obey p (Read u a)).said) e.1
+      ∙ read_said u n p
+      ∙ ap (λ (t : Side). line (letter_at t) (held (device_at t p))) e.0)
+  record_prints (Some (Pins u dsr dcd cts)) = silent (side_of u) (chip.SetPins dsr dcd cts) (obey p (Pins u dsr dcd cts)).said refl
+  record_prints (Some (Reset u)) = silent (side_of u) chip.Reset (obey p (Reset u)).said refl
+  record_prints (Some (kind.Ticks count)) = ticks_print count (obey p (kind.Ticks count)).said
+  record_prints (Some (Wait u limit)) = ticks_print (wait p u limit).count (obey p (Wait u limit)).said
+  record_prints None = refl
 
   line_prints : (l : List ℕ) → Prints (line_steps p l) (line_reply p l).said
   unfolding line_reply
   line_prints l = go (overlong l) refl
     where
-      r : Record
-      r = record_of (fields_of l)
-
-      known : shapeless r ≡ false → proper r ≡ true
-      known e = (reads_printed l (λ z. false≢true (sym e ∙ ap shapeless z))).within
-
       go : (t : Bool) → overlong l ≡ t → Prints (line_steps p l) (line_reply p l).said
       go true e = rw e
-      go false e = rw e (record_prints r known)
+      go false e = rw e (record_prints (record_of (fields_of l)))
 
 -- == all lines ==
 

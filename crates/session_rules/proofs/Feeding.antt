@@ -8,16 +8,16 @@ use Prim.Native.Char.{code}
 use native.Mathlib.Omega.{arith}
 use native.Mathlib.Nat.{add-zero}
 use native.Mathlib.Numerals.{add-one}
-use borrow.Author.Tests.{lt-ltb, le-ltb, eq-eqb, ne_eqb}
+use borrow.Author.Tests.{lt-ltb, le-ltb, ne_eqb}
 use lib.Dec.{eqb}
 use lib.ListN.{length, take, drop, get_or, drop_of_length-le}
 use lib.Seq.{take-suc, drop-cons}
-use Rattle.session_rules.specs.declared.Said.{Said}
 use Rattle.session_rules.specs.declared.Session.{Session}
+use Rattle.std.specs.Prelude.{Some}
 use Rattle.rows.specs.declared.Row.TheVariants.{Counts}
 use Rattle.rows.specs.Text.{Put, Spoke, row_text, counts_text}
-use Rattle.session_rules.specs.Calls.{row_of, said_text}
-use Rattle.session_rules.specs.Bytes.{goes_on, pushed, held_reply, ended, after, said, after_all, said_all, taken}
+use Rattle.session_rules.specs.Calls.{Said, row_of, said_text}
+use Rattle.session_rules.specs.Bytes.{goes_on, pushed, held_reply, after, said, after_all, said_all, taken}
 use Rattle.rows.proofs.Decimals.{row_short}
 use Rattle.rows.proofs.Puts.{behind, none_put, put_length, spoke, spoke_put, spoke_one}
 
@@ -29,7 +29,7 @@ said_text_short line s = row_short (row_of line s)
 
 pub counts_short : (m n : ℕ) → length (counts_text m n) ≤ 32
 unfolding row_text
-counts_short m n = row_short (Counts m n)
+counts_short m n = row_short (Some (Counts m n))
 
 pub said_short : (s : Session) (b : ℕ) → length (said s b) ≤ 32
 unfolding said
@@ -96,7 +96,7 @@ one_byte {s} {t} {b} {out₀} {out} {used} {at} d room =
 module _ {s t : Session} {piece out₀ out : List ℕ} {used at : ℕ} (g : Going s piece out₀ out t used at) where
   -- one byte more: the session is u then, and the text stands in out' up to at'
   module _ {u : Session} {out' : List ℕ} {at' : ℕ} (h : used < length piece) (free : 32 ≤ length out - at) where
-    goes_on_lem : u ≡ after t (get_or piece used 0) → Put out at (said t (get_or piece used 0)) out' at' → Going s piece out₀ out' u (used + 1) at'
+    pub goes_on_lem : u ≡ after t (get_or piece used 0) → Put out at (said t (get_or piece used 0)) out' at' → Going s piece out₀ out' u (used + 1) at'
     goes_on_lem e p =
         let b = get_or piece used 0 in
         let room : 32 ≤ length out₀ - at = omega (arith, free, g.same) in
@@ -115,21 +115,10 @@ module _ {s t : Session} {piece out₀ out : List ℕ} {used at : ℕ} (g : Goin
           same = put_length p ∙ g.same;
         })
 
-    -- a newline ends the line under way
-    pub goes_ended :
-        t.lines < 65535 → get_or piece used 0 ≡ code "\n" → u ≡ ended t → Put out at (said_text (t.lines + 1) (held_reply t).said) out' at' → Going s piece out₀ out' u (used + 1) at'
-    unfolding after said
-    goes_ended on is e p = goes_on_lem (rw (lt-ltb _ _ on, eq-eqb _ _ is) e) (rw (lt-ltb _ _ on, eq-eqb _ _ is) p)
-
-    -- another byte is of that line
+    -- .. as a byte of the line under way does
     pub goes_pushed : t.lines < 65535 → (get_or piece used 0 ≡ code "\n" → ⊥) → u ≡ pushed t (get_or piece used 0) → out' ≡ out → at' ≡ at → Going s piece out₀ out' u (used + 1) at'
     unfolding after said
     goes_pushed on not e o a = goes_on_lem (rw (lt-ltb _ _ on, ne_eqb _ _ not) e) (rw (lt-ltb _ _ on, ne_eqb _ _ not, o, a) (none_put out at))
-
-    -- after the last line that is taken none is looked at
-    pub goes_past : 65535 ≤ t.lines → u ≡ t → out' ≡ out → at' ≡ at → Going s piece out₀ out' u (used + 1) at'
-    unfolding after said
-    goes_past off e o a = goes_on_lem (rw (le-ltb _ _ off) e) (rw (le-ltb _ _ off, o, a) (none_put out at))
 
   done : taken t (drop used piece) (length out₀ - at) ≡ 0 → Done s piece out₀ out t used at
   done z =
@@ -144,5 +133,7 @@ module _ {s t : Session} {piece out₀ out : List ℕ} {used at : ℕ} (g : Goin
   done_full h l = done (rw (drop-cons piece used 0 h, ← g.same, lt-ltb (length out - at) 32 l))
 
   -- the piece is at its end
-  pub done_all : length piece ≤ used → Done s piece out₀ out t used at
-  done_all h = done (rw (drop_of_length-le piece h))
+  pub done_all : length piece ≤ used → Done s piece out₀ out t (length piece) at
+  done_all h =
+      let e : used ≡ length piece = omega (arith, g.some) in
+      subst (λ (k : ℕ). Done s piece out₀ out t k at) e (done (rw (drop_of_length-le piece h)))

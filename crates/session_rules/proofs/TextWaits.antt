@@ -7,8 +7,8 @@ use mathlib.Core.List.{List, ◌∷◌}
 use Rattle.line_rules.specs.declared.Format.{Format}
 use Rattle.delivery.specs.Joined.{Side}
 use Rattle.joined_rules.specs.declared.Pair.{Pair}
-use Rattle.joined_rules.specs.declared.Unit.{Unit}
-use Rattle.joined_rules.specs.declared.Unit.TheVariants as unit
+use Rattle.line_rules.specs.declared.Unit.{Unit}
+use Rattle.line_rules.specs.declared.Unit.TheVariants as unit
 use Rattle.joined_rules.specs.Bench.{Tick, all_moved, just_reset}
 use Rattle.joined_rules.specs.Demand3.{Settings, settings_at, Proper, sends, Agree}
 use Rattle.joined_rules.specs.Waiting.{side_of, wait, sender_to, StopsInTime, Stops}
@@ -16,9 +16,11 @@ use Rattle.joined_rules.proofs.Promised.{log_moved}
 use Rattle.joined_rules.proofs.Order.{resetting, from_reset, up}
 use Rattle.joined_rules.proofs.Waits.{wait_done}
 use Rattle.joined_rules.proofs.WaitsInTime.{one_way_waits, demand_3_waits}
+use Rattle.std.specs.Prelude.{Some}
+use Rattle.records.specs.Printed.{letter_of_unit}
+use Rattle.records.specs.Records.{unit_named}
 use Rattle.rows.specs.Text.{row_text}
-use Rattle.session_rules.specs.declared.Reply.{Reply}
-use Rattle.session_rules.specs.Calls.{unit_of, obey, said_text}
+use Rattle.session_rules.specs.Calls.{Reply, obey, said_text}
 use Rattle.session_rules.specs.Steps.{pair_after}
 use Rattle.session_rules.specs.Delivered.{Parted, Meets, format_from, MeetsFrom, letter_at, end, TextStops}
 use Rattle.session_rules.proofs.Lines.{moved_append, lines_are_steps}
@@ -32,10 +34,14 @@ end_is {lines} s l =
     ∙ ap (all_moved just_reset) (sym l.steps)
     ∙ lines_are_steps just_reset lines
 
--- the letter of a unit names it
-names : (u : Unit) → unit_of (letter_at (side_of u)) ≡ u
+-- the letter of a unit names it, and is that of its side
+pub names : (u : Unit) → unit_named (letter_of_unit u) ≡ Some u
 names unit.A = refl
 names unit.B = refl
+
+named : (u : Unit) → letter_of_unit u ≡ letter_at (side_of u)
+named unit.A = refl
+named unit.B = refl
 
 -- a line that is a wait, printed, shows one that stopped in time
 module _ (f : Format) (u : Unit) {lines : List (List ℕ)} (l : Parted lines) (stops : Stops f u (end (sender_to u) l)) where
@@ -47,7 +53,7 @@ module _ (f : Format) (u : Unit) {lines : List (List ℕ)} (l : Parted lines) (s
   in_time_lem awaited limit line printed h most n =
       let s : StopsInTime f u (wait p u limit) = subst (λ (q : Pair). StopsInTime f u (wait q u limit)) (end_is (sender_to u) l) (stops awaited limit h most) in
       let e = printed_obeyed p printed in
-      record { waited = wait p u limit; shown = rw (e, names u, wait_done p u limit most); left = ap (λ (q : Reply). q.pair) e ∙ rw (names u); stops = s }
+      record { waited = wait p u limit; shown = rw (e, wait_done p u limit most, named u); left = ap (λ (q : Reply). q.pair) e; stops = s }
 
 -- one way, whatever happens on the other
 pub one_way_text_waits : (u : Unit) (lines : List (List ℕ)) (m : MeetsFrom (sender_to u) lines) → TextStops (format_from (sender_to u) m.parted) u lines (end (sender_to u) m.parted)

@@ -5,10 +5,10 @@ use Prim.Native.Char.{code}
 use Rattle.fields.specs.Reading as reading
 use Rattle.fields.specs.Reading.{empty, push}
 use Rattle.joined_rules.specs.Bench.{just_reset}
-use Rattle.session_rules.specs.declared.Reply.{Reply}
 use Rattle.session_rules.specs.declared.Session.{Session}
 use Rattle.records.specs.Records.{held_record}
-use Rattle.session_rules.specs.Calls.{refused, obey, number, said_text}
+use Rattle.session_rules.specs.declared.Refusal.TheVariants.{Overlong}
+use Rattle.session_rules.specs.Calls.{Reply, refused, obey_known, number, said_text}
 use Rattle.rows.specs.Text.{counts_text}
 
 -- both devices as after reset
@@ -25,7 +25,7 @@ unfoldable pub pushed : Session → ℕ → Session
 pushed s b = record { pair = s.pair; lines = s.lines; refusals = s.refusals; length = longer s.length; fields = push s.fields b }
 
 unfoldable pub held_reply : Session → Reply
-held_reply s = cond (ltb 64 s.length) (refused s.pair 7) (obey s.pair (held_record s.fields))
+held_reply s = cond (ltb 64 s.length) (refused s.pair Overlong) (obey_known s.pair (held_record s.fields))
 
 -- == a line's end ==
 

@@ -18,9 +18,8 @@ use Rattle.joined_rules.specs.declared.Pair.{Pair}
 use Rattle.joined_rules.specs.Joining.{tick}
 use Rattle.joined_rules.specs.Bench.{device_at, Step, Tick, all_moved, just_reset, deed_from, way_from}
 use Rattle.joined_rules.specs.Demand3.{Settings, Quiet, Holds, first_tally, fresh, all_allowed, Open}
-use Rattle.joined_rules.specs.declared.Unit.{Unit}
-use Rattle.joined_rules.specs.declared.Waited.{Waited}
-use Rattle.joined_rules.specs.Waiting.{side_of, StopsInTime}
+use Rattle.line_rules.specs.declared.Unit.{Unit}
+use Rattle.joined_rules.specs.Waiting.{Waited, side_of, StopsInTime}
 use Rattle.records.specs.declared.Record.TheVariants.{Wait}
 use Rattle.records.specs.Printed.{Printed}
 use Rattle.rows.specs.Text.{held_text, wait_text}
@@ -134,5 +133,5 @@ pub record ShowsInTime (f : Format) (u : Unit) (text : List ℕ) (after : Pair) 
 -- a line behind these that is a wait for the unit, with a limit that is enough, where a character is still to come by the log
 abbrev pub TextStops : Format → Unit → List (List ℕ) → Logged Pair → Type 0
 TextStops f u lines w =
-    Awaited w → (limit : ℕ) (line : List ℕ) → Printed (Wait (letter_at (side_of u)) limit) line → L f + D f ≤ limit → limit ≤ 65535
+    Awaited w → (limit : ℕ) (line : List ℕ) → Printed (Wait u limit) line → L f + D f ≤ limit → limit ≤ 65535
     → (n : ℕ) → let r = line_reply (pair_after just_reset lines) line in ShowsInTime f u (said_text n r.said) r.pair

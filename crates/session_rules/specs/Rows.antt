@@ -1,44 +1,38 @@
 -- The refusal table of document 01 at the session, with request P12's number: which one a line is given.
 -- Assumes nothing.
-use Rattle.std.specs.Prelude.{ℕ, suc, ◌≡◌, Bool, true, false, cond, not, ◌&&◌, List, [], ◌∷◌, eqb, ltb, length}
+use Rattle.std.specs.Prelude.{ℕ, suc, ◌≡◌, Bool, false, cond, not, ◌&&◌, Option, Some, None, is_none, List, [], ◌∷◌, eqb, ltb, length}
 use Prim.Native.Char.{code}
 use Rattle.fields.specs.Parted.{fields_of}
 use Rattle.ins2651_rules.specs.Runs as chip
 use Rattle.ins2651_rules.specs.Rows.{refusal}
 use Rattle.joined_rules.specs.declared.Pair.{Pair}
 use Rattle.records.specs.declared.Record.{Record}
-use Rattle.records.specs.declared.Record.TheVariants.{Write, Read, Pins, Reset, Ticks, Wait, Shapeless}
+use Rattle.records.specs.declared.Record.TheVariants.{Write, Read, Pins, Reset, Ticks, Wait}
 use Rattle.records.specs.Records.{record_of}
 use Rattle.session_rules.specs.Calls.{device_of, line_reply}
 
-abbrev pub shapeless : Record → Bool
-shapeless (Write unit address v) = false
-shapeless (Read unit address) = false
-shapeless (Pins unit dsr dcd cts) = false
-shapeless (Reset unit) = false
-shapeless (Ticks count) = false
-shapeless (Wait unit limit) = false
-shapeless Shapeless = true
+abbrev pub shapeless : Option Record → Bool
+shapeless = is_none
 
 -- a wait with a limit above 65535, and no other record
-abbrev pub waits_too_long : Record → Bool
-waits_too_long (Write unit address v) = false
-waits_too_long (Read unit address) = false
-waits_too_long (Pins unit dsr dcd cts) = false
-waits_too_long (Reset unit) = false
-waits_too_long (Ticks count) = false
-waits_too_long (Wait unit limit) = ltb 65535 limit
-waits_too_long Shapeless = false
+abbrev pub waits_too_long : Option Record → Bool
+waits_too_long (Some (Write unit address v)) = false
+waits_too_long (Some (Read unit address)) = false
+waits_too_long (Some (Pins unit dsr dcd cts)) = false
+waits_too_long (Some (Reset unit)) = false
+waits_too_long (Some (Ticks count)) = false
+waits_too_long (Some (Wait unit limit)) = ltb 65535 limit
+waits_too_long None = false
 
 -- the call's own number: the device's, or 21 for a wait that is too long; a reset and joined ticks are never refused
-abbrev pub own_refusal : Pair → Record → ℕ
-own_refusal p (Write unit address v) = refusal (device_of p unit) (chip.Write address v)
-own_refusal p (Read unit address) = refusal (device_of p unit) (chip.Read address)
-own_refusal p (Pins unit dsr dcd cts) = refusal (device_of p unit) (chip.SetPins dsr dcd cts)
-own_refusal p (Reset unit) = 0
-own_refusal p (Ticks count) = 0
-own_refusal p (Wait unit limit) = cond (waits_too_long (Wait unit limit)) 21 0
-own_refusal p Shapeless = 0
+abbrev pub own_refusal : Pair → Option Record → ℕ
+own_refusal p (Some (Write unit address v)) = refusal (device_of p unit) (chip.Write address v)
+own_refusal p (Some (Read unit address)) = refusal (device_of p unit) (chip.Read address)
+own_refusal p (Some (Pins unit dsr dcd cts)) = refusal (device_of p unit) (chip.SetPins dsr dcd cts)
+own_refusal p (Some (Reset unit)) = 0
+own_refusal p (Some (Ticks count)) = 0
+own_refusal p (Some (Wait unit limit)) = cond (waits_too_long (Some (Wait unit limit))) 21 0
+own_refusal p None = 0
 
 abbrev pub overlong : List ℕ → Bool
 overlong line = ltb 64 (length line)

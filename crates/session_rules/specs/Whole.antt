@@ -5,8 +5,7 @@ use Prim.Native.Char.{code}
 use Rattle.fields.specs.Parted.{parts}
 use Rattle.joined_rules.specs.declared.Pair.{Pair}
 use Rattle.joined_rules.specs.Bench.{just_reset}
-use Rattle.session_rules.specs.declared.Said.{Said}
-use Rattle.session_rules.specs.Calls.{line_reply, number, said_text}
+use Rattle.session_rules.specs.Calls.{Said, line_reply, number, said_text}
 use Rattle.rows.specs.Text.{counts_text}
 
 -- == lines ==

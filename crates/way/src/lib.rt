@@ -3,335 +3,80 @@
 // Every call takes any number in any field: `way_rules` says what each answers, inside the range and outside.
 #![tactic(auto)]
 
-ghost use Rattle.std.specs.Prelude.{◌≡◌, ◌+◌, ◌-◌, ◌*◌, ◌%◌, ◌^◌, ◌<◌, ◌≤◌, false, if◌then◌else◌, nat_eq};
+ghost use Rattle.std.specs.Prelude.{◌≡◌, ◌+◌, ◌-◌, ◌*◌, ◌<◌, ◌≤◌, if◌then◌else◌, nat_eq};
 ghost use Rattle.line_rules.specs.Sending.{bit, half, level};
-ghost use Rattle.line_rules.specs.Receiving.{under, stop_look, look_at};
-ghost use Rattle.link_rules.specs.Transmitting.{frame_tick, begin_tick, sending};
-ghost use Rattle.link_rules.specs.Hearing.{hearing};
-ghost use Rattle.way_rules.specs.Parts;
-ghost use Rattle.way_rules.specs.Parts.{without_frame, with_mark, resting, assembled, tuned};
-ghost use Rattle.way_rules.specs.Along.{sent_by, heard_by, heard_as, way_tick, way_ticks};
+ghost use Rattle.way_rules.specs.Along;
+ghost use Rattle.way_rules.specs.Along.{sent, received, sent_by, heard_by, way_tick, way_ticks};
 ghost use Rattle.way_rules.specs.Calm;
 ghost use Rattle.way_rules.specs.Until.{unread, done_until};
-ghost use Rattle.way_rules.specs.Leap.{last_look, so_far, same_bits, both_busy, in_step, fly_at, leap_ticks, looks_ahead, leap_looks, done_at_once, Narrow, Leaps};
-ghost use Rattle.way_rules.specs.Calm.{places_left, sender_level, sender_calm, bit_left, frame_holds, sender_keeps, sender_moved, heard_calm, way_calm, way_skipped, way_later, sender_stands, receiver_stands};
+ghost use Rattle.way_rules.specs.Leap.{so_far, in_step, fly_at, leap_ticks, looks_ahead, leap_looks, done_at_once, Narrow, Leaps};
+ghost use Rattle.way_rules.specs.Calm.{places_left, sender_calm, bit_left, frame_holds, sender_keeps, sender_moved, heard_calm, way_calm, way_skipped, way_later, sender_stands, receiver_stands};
 
-use line_rules::{Format, RxC};
-use link_rules::{Frame, ReceiverHalf, SenderHalf};
-use way_rules::{Ends, Faults, Moved, Way};
+use line_rules::Format;
+use link_rules::{Frame, HeardTick, ReceiverHalf, SenderHalf};
+use way_rules::{Ends, Faults, Way};
+
+// (w, e) stay two parameters, and these calls functions: `Way` is of `way_rules`, which has no code, so no methods stand there.
 
 // == a tick ==
 
-// The same way, k ticks on by both tallies (P4). Its four flags are stored one by one as they were: as nothing else is stored beside them here,
-// they would be kept as one number, which every turn of `along` takes apart.
-fn later(k: u16, mut w: Way) -> Way
-    ensures { result ≡ way_later k w }
+// What arrives sets flags, and clears none. (Its twin in `ins2651` is over `Flags`, of another type with two fields more.)
+fn note(f: &mut Faults, t: HeardTick)
+    ensures { f.new ≡ Along.noted f.old t.overrun t.heard }
 {
-    let sent = line::tx_later(w.sender.tally, k);
-    let heard = line::rx_later(w.receiver.tally, k);
-    let empty = w.empty;
-    let framing = w.faults.framing;
-    let overrun = w.faults.overrun;
-    let parity = w.faults.parity;
-    w.sender.tally.0 = sent.0;
-    w.receiver.tally.0 = heard.0;
-    w.empty = empty;
-    w.faults.framing = framing;
-    w.faults.overrun = overrun;
-    w.faults.parity = parity;
-    w
+    if let Some(a) = t.heard {
+        f.framing = line::or_set(a.framing, f.framing);
+        f.overrun = line::or_set(t.overrun, f.overrun);
+        f.parity = line::or_set(a.parity, f.parity);
+    }
 }
 
-// The level of the sender's next tick. A frame in its stop needs no division.
-fn level_now(e: Ends, s: SenderHalf) -> bool
-    ensures { result ≡ sender_level e s }
+// The sender's tick: the level sent. The empty-mark is set where a frame ends with nothing waiting and transmit enabled.
+fn send(w: &mut Way, e: &Ends) -> bool
+    ensures level { result ≡ (sent e.now w.old).level }
+    ensures way { w.new ≡ sent_by e.now w.old (sent e.now w.old) }
 {
-    let g = s.frame;
-    if 0 < g.place {
-        if stopping(g) {
-            return true;
-        }
-        return line::level(g.format, g.character, g.place);
-    }
-    if breaks(e) {
-        return false;
-    }
-    if 0 < s.guard {
-        return true;
-    }
-    !(e.ready & (0 < s.full))
+    let sent = link::transmit(&mut w.sender, e.ready, e.broken, e.send);
+    w.empty = line::or_set(sent.drained & e.enabled, w.empty);
+    sent.level
 }
 
-// No frame is under way.
-fn unframed(mut w: Way) -> Way
-    ensures { result ≡ without_frame w }
+// The receiver's.
+fn hear(w: &mut Way, e: &Ends, x: bool)
+    ensures { w.new ≡ heard_by w.old (received e.now w.old x) }
 {
-    w.sender.frame.character = 0;
-    w.sender.frame.format.factor = 0;
-    w.sender.frame.format.length = 0;
-    w.sender.frame.format.parity = 0;
-    w.sender.frame.format.even = 0;
-    w.sender.frame.format.stop = 0;
-    w.sender.frame.place = 0;
-    w
-}
-
-// A frame ends: the empty-mark is set where nothing waits.
-fn ended(on: bool, mut w: Way) -> Way
-    ensures { result ≡ with_mark on (without_frame w) }
-{
-    let empty = line::or_set(on, w.empty);
-    w.empty = empty;
-    unframed(w)
-}
-
-// The waiting character begins its frame, with the tick that the tally has just counted as its start (P4).
-fn begun(e: Ends, mut w: Way) -> Way
-    ensures { result ≡ sent_by e w (begin_tick w.sender e.send) }
-{
-    let place = link::next_place(e.send, 0);
-    let character = w.sender.holding;
-    let factor = e.send.factor;
-    let length = e.send.length;
-    let parity = e.send.parity;
-    let even = e.send.even;
-    let stop = e.send.stop;
-    let start = w.sender.tally.0;
-    w.sender.holding = 0;
-    w.sender.full = 0;
-    w.sender.start.0 = start;
-    if 0 < place {
-        w.sender.frame.character = character;
-        w.sender.frame.format.factor = factor;
-        w.sender.frame.format.length = length;
-        w.sender.frame.format.parity = parity;
-        w.sender.frame.format.even = even;
-        w.sender.frame.format.stop = stop;
-        w.sender.frame.place = place;
-        return w;
-    }
-    ended(e.enabled, w)
-}
-
-// A frame goes on, or ends.
-fn framed(e: Ends, mut w: Way) -> Way
-    ensures { result ≡ sent_by e w (frame_tick w.sender w.sender.frame false) }
-{
-    let place = link::next_place(w.sender.frame.format, w.sender.frame.place);
-    if 0 < place {
-        w.sender.frame.place = place;
-        return w;
-    }
-    let on = (w.sender.full == 0) & e.enabled;
-    ended(on, w)
-}
-
-// The sender's tick, which the tally has counted.
-fn send(e: Ends, mut w: Way) -> Way
-    ensures { result ≡ sent_by e w (sending w.sender e.ready e.broken e.send) }
-{
-    if 0 < w.sender.frame.place {
-        return framed(e, w);
-    }
-    if breaks(e) {
-        let factor = e.send.factor;
-        w.sender.guard = factor;
-        return w;
-    }
-    if 0 < w.sender.guard {
-        let guard = w.sender.guard - 1;
-        w.sender.guard = guard;
-        return w;
-    }
-    let begins = e.ready & (0 < w.sender.full);
-    if begins {
-        return begun(e, w);
-    }
-    w
-}
-
-// The receiver has no character under way.
-fn rest(phase: u8, mut w: Way) -> Way
-    ensures { result ≡ resting phase w }
-{
-    w.receiver.state.phase = phase;
-    w.receiver.state.countdown = 0;
-    w.receiver.state.value = 0;
-    w.receiver.state.wrong = 0;
-    w.receiver.state.look = 0;
-    w.receiver.format.factor = 0;
-    w.receiver.format.length = 0;
-    w.receiver.format.parity = 0;
-    w.receiver.format.even = 0;
-    w.receiver.format.stop = 0;
-    w
-}
-
-// A character is under way.
-fn assemble(c: u8, m: u16, v: u8, x: u8, mut w: Way) -> Way
-    ensures { result ≡ assembled c m v x w }
-{
-    w.receiver.state.phase = 2;
-    w.receiver.state.countdown = c;
-    w.receiver.state.value = v;
-    w.receiver.state.wrong = x;
-    w.receiver.state.look = m;
-    w
-}
-
-// One that begins, in the format f.
-fn tune(f: Format, mut w: Way) -> Way
-    ensures { result ≡ tuned f w }
-{
-    let factor = f.factor;
-    let length = f.length;
-    let parity = f.parity;
-    let even = f.even;
-    let stop = f.stop;
-    w.receiver.format.factor = factor;
-    w.receiver.format.length = length;
-    w.receiver.format.parity = parity;
-    w.receiver.format.even = even;
-    w.receiver.format.stop = stop;
-    w
-}
-
-fn start(f: Format, w: Way) -> Way
-    ensures { result ≡ heard_as w f (under f (half f) 0 0 0 false w.receiver.tally) }
-{
-    let h = line::half(f);
-    if h == 0 {
-        return assemble(line::gap(f), 1, 0, 0, tune(f, w));
-    }
-    assemble(h - 1, 0, 0, 0, tune(f, w))
-}
-
-// A character is held, with its stamp and the flags. Its mark as unread is `arrive`'s own: where a store of the mark stands beside these, every turn
-// of `along` copies the padding behind it byte by byte.
-fn stamped(v: u8, t: RxC, f: Faults, mut w: Way) -> Way
-    ensures { result ≡ Parts.stamped v t f w }
-{
-    let stamp = t.0;
-    w.receiver.holding = v;
-    w.receiver.stamp.0 = stamp;
-    w.faults.framing = f.framing;
-    w.faults.overrun = f.overrun;
-    w.faults.parity = f.parity;
-    w
-}
-
-// The stop: the character arrives, stamped with the tally, which has counted this tick (P4).
-fn arrive(x: bool, w: Way) -> Way
-    ensures { result ≡ heard_as w w.receiver.format (stop_look w.receiver.state.value w.receiver.state.wrong x w.receiver.tally) }
-{
-    let flags = Faults {
-        framing: line::or_set(!x, w.faults.framing),
-        overrun: line::or_set(0 < w.receiver.unread, w.faults.overrun),
-        parity: line::or_set(0 < w.receiver.state.wrong, w.faults.parity),
-    };
-    let mut next = stamped(w.receiver.state.value, w.receiver.tally, flags, w);
-    next.receiver.unread = 1;
-    rest(line::number(x), next)
-}
-
-// A look.
-fn look(x: bool, w: Way) -> Way
-    ensures { result ≡ heard_as w w.receiver.format (look_at w.receiver.format w.receiver.state.look w.receiver.state.value w.receiver.state.wrong x w.receiver.tally) }
-{
-    let g = w.receiver.format;
-    let m = w.receiver.state.look;
-    let v = w.receiver.state.value;
-    if m == 0 {
-        if x {
-            return rest(1, w);
-        }
-        return assemble(line::gap(g), 1, 0, 0, w);
-    }
-    let i = m - 1;
-    let n = g.length as u16;
-    if i < n {
-        return assemble(
-            line::gap(g),
-            m + 1,
-            line::with_bit(v, i, x),
-            w.receiver.state.wrong,
-            w,
-        );
-    }
-    if i < n + line::parity_bits(g) {
-        let wrong = x != line::parity_bit(g, v);
-        return assemble(line::gap(g), m + 1, v, line::number(wrong), w);
-    }
-    arrive(x, w)
-}
-
-// The receiver's tick, which the tally has counted.
-#[tactic(auto, unfolding(line_rules::specs::Receiving::sample))]
-fn hear(e: Ends, x: bool, w: Way) -> Way
-    ensures { result ≡ heard_by w (hearing w.receiver e.live e.hear x) }
-{
-    let live = e.live;
-    if live {
-        let phase = w.receiver.state.phase;
-        if 1 < phase {
-            let c = w.receiver.state.countdown;
-            if 0 < c {
-                return assemble(
-                    c - 1,
-                    w.receiver.state.look,
-                    w.receiver.state.value,
-                    w.receiver.state.wrong,
-                    w,
-                );
-            }
-            return look(x, w);
-        }
-        if x {
-            return rest(1, w);
-        }
-        if phase == 1 {
-            return start(e.hear, w);
-        }
-        return rest(0, w);
-    }
-    rest(0, w)
+    let tick = link::receive(&mut w.receiver, e.live, e.hear, x);
+    note(&mut w.faults, tick);
 }
 
 // A tick: both ends count it, and the receiver takes what the sender sends.
-pub fn tick(w: Way, e: Ends) -> Way
-    ensures { result ≡ way_tick e w }
+#[tactic(auto, unfolding(way_rules::specs::Along::way_tick))]
+pub fn tick(w: &mut Way, e: &Ends)
+    ensures { w.new ≡ way_tick e.now w.old }
 {
-    let x = level_now(e, w.sender);
-    hear(e, x, send(e, later(1, w)))
+    let x = send(w, e);
+    hear(w, e, x);
 }
 
 // == ticks that only count ==
 
-fn least(m: u16, n: u16) -> u16
-    ensures { result ≡ Calm.least m n }
+// The same way, k ticks on by both tallies (P4).
+fn later(w: &mut Way, k: u16)
+    ensures { w.new ≡ way_later k w.old }
 {
-    if m < n { m } else { n }
+    link::sender_later(&mut w.sender, k);
+    link::receiver_later(&mut w.receiver, k);
 }
 
-// As long as the longest run.
-fn endless(t: bool) -> u16
-    ensures { result ≡ Calm.endless t }
-{
-    if t { 65535 } else { 0 }
-}
-
+// What k ticks leave of a countdown or a guard. (The library's `saturating_sub` is over one width, and k is of another.)
 fn lowered(c: u8, k: u16) -> u8
     ensures { result ≡ c - k }
 {
-    let n = c as u16;
-    if k < n {
-        return (n - k) as u8;
-    }
-    0
+    c.saturating_sub(u8::try_from(k).unwrap_or(u8::MAX))
 }
 
-fn breaks(e: Ends) -> bool
-    ensures { result ≡ Calm.breaks e }
+fn breaks(e: &Ends) -> bool
+    ensures { result ≡ Calm.breaks e.now }
 {
     e.ready & e.broken
 }
@@ -340,54 +85,46 @@ fn breaks(e: Ends) -> bool
 fn places_left(g: Frame) -> u16
     ensures { result ≡ places_left g }
 {
-    let length = line::frame_length(g.format);
-    let place = g.place as u32;
-    if length <= place + 1 {
-        return 0;
-    }
-    if 65536 <= length {
-        return 65535 - g.place;
-    }
-    (length - place - 1) as u16
+    let places = line::frame_length(g.format).min(65536);
+    u16::try_from(places.saturating_sub(u32::from(g.place) + 1)).unwrap_or(u16::MAX)
 }
 
 #[tactic(auto, unfolding(way_rules::specs::Calm::sender_calm))]
-fn sender_calm(e: Ends, s: SenderHalf) -> u16
-    ensures { result ≡ sender_calm e s }
+fn sender_calm(s: &SenderHalf, e: &Ends) -> u16
+    ensures { result ≡ sender_calm e.now s.now }
 {
-    let g = s.frame;
-    if 0 < g.place {
-        return places_left(g);
+    if 0 < s.frame.place {
+        return places_left(s.frame);
     }
     if breaks(e) {
-        return endless(s.guard == e.send.factor);
+        return only(s.guard == e.send.factor, u16::MAX);
     }
     if 0 < s.guard {
-        return s.guard as u16;
+        return u16::from(s.guard);
     }
-    endless(!(e.ready & (0 < s.full)))
+    only(!(e.ready & (0 < s.full)), u16::MAX)
 }
 
-// The frame is in its stop.
+// The frame is in its stop. (Asked apart from the level for speed: a frame in its stop then needs no division.)
 fn stopping(g: Frame) -> bool
     ensures { result ≡ Calm.stopping g }
 {
     let f = g.format;
-    (0 < f.factor) & (line::frame_length(f) <= (g.place as u32) + (f.stop as u32))
+    (0 < f.factor) & (line::frame_length(f) <= u32::from(g.place) + u32::from(f.stop))
 }
 
 // The ticks of a bit from a place on.
 fn bit_left(f: Format, place: u16) -> u16
     ensures { result ≡ bit_left f place }
 {
-    let ticks = f.factor as u16;
+    let ticks = u16::from(f.factor);
     if ticks == 0 {
         return 0;
     }
     ticks - place % ticks
 }
 
-// A count where t is so, or none.
+// A count where t is so, or none. (No plainer by the library: `t.then_some(n).unwrap_or(0)` is longer than this `if`.)
 fn only(t: bool, n: u16) -> u16
     ensures { result ≡ (if t then n else 0) }
 {
@@ -403,111 +140,102 @@ fn frame_keeps(g: Frame, p: u8) -> u16
     }
     let f = g.format;
     only(
-        p == line::number(line::level(f, g.character, g.place)),
+        p == u8::from(line::level(f, g.character, g.place)),
         bit_left(f, g.place),
     )
 }
 
 // For how many ticks the line is at the level p: none where it is at the other.
-fn sender_keeps(e: Ends, s: SenderHalf, p: u8) -> u16
-    ensures { result ≡ sender_keeps e s p }
+fn sender_keeps(s: &SenderHalf, e: &Ends, p: u8) -> u16
+    ensures { result ≡ sender_keeps e.now s.now p }
 {
     if 0 < s.frame.place {
         return frame_keeps(s.frame, p);
     }
     if breaks(e) {
-        return only(p == 0, 65535);
+        return only(p == 0, u16::MAX);
     }
     if 0 < s.guard {
-        return only(p == 1, s.guard as u16);
+        return only(p == 1, u16::from(s.guard));
     }
-    only(p == line::number(!(e.ready & (0 < s.full))), 65535)
+    only(p == u8::from(!(e.ready & (0 < s.full))), u16::MAX)
 }
 
 // What k ticks that only count move in a sender, beside its tally.
 #[tactic(auto, unfolding(way_rules::specs::Calm::sender_moved))]
-fn sender_moved(e: Ends, k: u16, mut s: SenderHalf) -> SenderHalf
-    ensures { result ≡ sender_moved e k s }
+fn move_sender(s: &mut SenderHalf, e: &Ends, k: u16)
+    ensures { s.new ≡ sender_moved e.now k s.old }
 {
     if 0 < s.frame.place {
-        let place = std::num::wrapping_add_u16(s.frame.place, k);
-        s.frame.place = place;
-        return s;
+        s.frame.place = s.frame.place.wrapping_add(k);
+    } else if !breaks(e) {
+        s.guard = lowered(s.guard, k);
     }
-    if breaks(e) {
-        return s;
-    }
-    let guard = lowered(s.guard, k);
-    s.guard = guard;
-    s
 }
 
 // How many ticks of the receiver only count, by the line that it hears.
 #[tactic(auto, unfolding(way_rules::specs::Calm::receiver_calm))]
-fn heard_calm(e: Ends, w: Way) -> u16
-    ensures { result ≡ heard_calm e w }
+fn heard_calm(w: &Way, e: &Ends) -> u16
+    ensures { result ≡ heard_calm e.now w.now }
 {
-    let live = e.live;
     let phase = w.receiver.state.phase;
-    if live {
-        if phase == 2 {
-            return w.receiver.state.countdown as u16;
-        }
-        let rests = link::clear(w.receiver);
-        if rests {
-            return sender_keeps(e, w.sender, phase);
-        }
-        return 0;
+    if !e.live {
+        return only((phase == 0) & link::clear(w.receiver), u16::MAX);
     }
-    endless((phase == 0) & link::clear(w.receiver))
+    if phase == 2 {
+        return u16::from(w.receiver.state.countdown);
+    }
+    if link::clear(w.receiver) {
+        return sender_keeps(&w.sender, e, phase);
+    }
+    0
 }
 
 // Whether the receiver looks at the next tick: the quickest sign that this is not calm.
-fn looks(w: Way) -> bool
-    ensures { result ≡ Calm.looks w }
+fn looks(w: &Way) -> bool
+    ensures { result ≡ Calm.looks w.now }
 {
     (w.receiver.state.phase == 2) & (w.receiver.state.countdown == 0)
 }
 
 // How many ticks only count.
-fn calm(e: Ends, w: Way) -> u16
-    ensures { result ≡ way_calm e w }
+fn calm(w: &Way, e: &Ends) -> u16
+    ensures { result ≡ way_calm e.now w.now }
 {
     if looks(w) {
         return 0;
     }
-    let sends = sender_calm(e, w.sender);
+    let sends = sender_calm(&w.sender, e);
     if sends == 0 {
         return 0;
     }
-    least(heard_calm(e, w), sends)
+    heard_calm(w, e).min(sends)
 }
 
 #[tactic(auto, unfolding(way_rules::specs::Calm::sender_skipped, way_rules::specs::Calm::way_skipped))]
-fn skipped(e: Ends, k: u16, mut w: Way) -> Way
-    ensures { result ≡ way_skipped e k w }
+fn count(w: &mut Way, e: &Ends, k: u16)
+    ensures { w.new ≡ way_skipped e.now k w.old }
 {
-    let sender = sender_moved(e, k, w.sender);
-    let countdown = lowered(w.receiver.state.countdown, k);
-    w.sender = sender;
-    w.receiver.state.countdown = countdown;
-    later(k, w)
+    move_sender(&mut w.sender, e, k);
+    w.receiver.state.countdown = lowered(w.receiver.state.countdown, k);
+    later(w, k);
 }
 
 // k of them at once.
-fn skip(e: Ends, k: u16, w: Way) -> Way
-    requires { k ≤ way_calm e w }
-    ensures { result ≡ way_ticks e k w }
+fn skip(w: &mut Way, e: &Ends, k: u16)
+    requires { k ≤ way_calm e.now w.old }
+    ensures { w.new ≡ way_ticks e.now k w.old }
 {
     if k == 0 {
-        return w;
+        return;
     }
-    skipped(e, k, w)
+    count(w, e, k);
 }
 
 // == a way that stands ==
 
 // The sender is at rest with nothing that may start, or in a break whose guard stands.
+// (Its definition, which docs/PROMISES.md names, has these parameters; so has the receiver's, below.)
 pub fn sender_stands(s: SenderHalf, ready: bool, broken: bool, factor: u8) -> bool
     ensures { result ≡ sender_stands s ready broken factor }
 {
@@ -522,90 +250,47 @@ pub fn sender_stands(s: SenderHalf, ready: bool, broken: bool, factor: u8) -> bo
 pub fn receiver_stands(r: ReceiverHalf, live: bool, level: bool) -> bool
     ensures { result ≡ receiver_stands r live level }
 {
-    link::clear(r) & (r.state.phase == line::number(live & level))
+    link::clear(r) & (r.state.phase == u8::from(live & level))
 }
 
 // == a frame that is followed ==
-
-fn fallen(m: u16) -> u16
-    ensures { result ≡ m - 1 }
-{
-    if m == 0 {
-        return 0;
-    }
-    m - 1
-}
-
-// The lowest k bits of a byte.
-fn low(c: u8, k: u16) -> u8
-    ensures { result ≡ c % 2 ^ k }
-{
-    if 8 <= k {
-        return c;
-    }
-    c % (1 << k)
-}
 
 // The value of a character before look number m. (That it is a byte is told to the proofs of its callers.)
 fn so_far(f: Format, c: u8, m: u16) -> u8
     ensures { (result ≡ so_far f c m) × (c < 256) }
 {
-    low(c, least(fallen(m), f.length as u16))
-}
-
-// The number of the look at the stop.
-fn last_look(f: Format) -> u16
-    ensures { (result ≡ last_look f) × (result ≤ 257) }
-{
-    let n = f.length as u16;
-    if 0 < f.parity {
-        return n + 2;
-    }
-    n + 1
-}
-
-fn same_bits(f: Format, g: Format) -> bool
-    ensures { result ≡ same_bits f g }
-{
-    (f.factor == g.factor) & (f.length == g.length) & (f.parity == g.parity) & (f.even == g.even)
-}
-
-fn both_busy(w: Way) -> bool
-    ensures { result ≡ both_busy w }
-{
-    (0 < w.sender.frame.place) & (w.receiver.state.phase == 2)
+    line::low_bits(c, m.saturating_sub(1).min(u16::from(f.length)))
 }
 
 // The place of look number m.
 fn look_place(f: Format, m: u16) -> u32
     ensures { result ≡ half f + f.factor * m }
 {
-    (line::half(f) as u32) + (f.factor as u32) * (m as u32)
+    u32::from(line::half(f)) + u32::from(f.factor) * u32::from(m)
 }
 
-// The receiver is where the frame's place puts it.
+// The receiver is where the frame's place puts it: its format may differ in the stop alone.
 #[tactic(auto, unfolding(way_rules::specs::Leap::in_step))]
-fn in_step(w: Way) -> bool
-    ensures { (result ≡ in_step w) × (w.sender.frame.character < 256) }
+fn in_step(w: &Way) -> bool
+    ensures { (result ≡ in_step w.now) × (w.now.sender.frame.character < 256) }
 {
     let f = w.sender.frame.format;
     let g = w.receiver.format;
-    let at = (w.sender.frame.place as u32) + (w.receiver.state.countdown as u32);
-    same_bits(f, g)
+    let at = u32::from(w.sender.frame.place) + u32::from(w.receiver.state.countdown);
+    (f == Format { stop: f.stop, ..g })
         & (at == look_place(g, w.receiver.state.look))
         & (w.receiver.state.wrong == 0)
         & (w.receiver.state.value == so_far(g, w.sender.frame.character, w.receiver.state.look))
 }
 
 // How many looks are passed in so many ticks: those that they reach, the stop's at most. Where they reach that one there is no division.
-fn looks_ahead(w: Way, room: u16) -> u16
-    ensures { (result ≡ looks_ahead w room) × (0 < result → w.receiver.state.look + result ≤ 257) }
+fn looks_ahead(w: &Way, room: u16) -> u16
+    ensures { (result ≡ looks_ahead w.now room) × (0 < result → w.now.receiver.state.look + result ≤ 257) }
 {
-    let g = w.receiver.format;
     let look = w.receiver.state.look;
-    let wait = w.receiver.state.countdown as u16;
-    let ticks = g.factor as u16;
-    let last = last_look(g);
+    let wait = u16::from(w.receiver.state.countdown);
+    let ticks = u16::from(w.receiver.format.factor);
+    let last = line::last_look(w.receiver.format);
     if ticks == 0 {
         return 0;
     }
@@ -622,14 +307,14 @@ fn looks_ahead(w: Way, room: u16) -> u16
 }
 
 // .. of a receiver in step, before the frame's last place.
-fn leap_looks(e: Ends, w: Way, room: u16) -> u16
-    ensures { (result ≡ leap_looks e w room) × (0 < result → Narrow w result) }
+fn leap_looks(w: &Way, e: &Ends, room: u16) -> u16
+    ensures { (result ≡ leap_looks e.now w.now room) × (0 < result → Narrow w.now result) }
 {
-    let followed = e.live & both_busy(w);
+    let followed = e.live & ((0 < w.sender.frame.place) & (w.receiver.state.phase == 2));
     if followed {
         let step = in_step(w);
         if step {
-            return looks_ahead(w, least(places_left(w.sender.frame), room));
+            return looks_ahead(w, places_left(w.sender.frame).min(room));
         }
         return 0;
     }
@@ -637,65 +322,60 @@ fn leap_looks(e: Ends, w: Way, room: u16) -> u16
 }
 
 // The ticks to the look that is q after the next.
-fn leap_ticks(w: Way, q: u16) -> u16
-    requires { leap_ticks w q ≤ 65535 }
-    ensures { result ≡ leap_ticks w q }
+fn leap_ticks(w: &Way, q: u16) -> u16
+    requires { leap_ticks w.now q ≤ 65535 }
+    ensures { result ≡ leap_ticks w.now q }
 {
-    (w.receiver.state.countdown as u16) + (w.receiver.format.factor as u16) * q
+    u16::from(w.receiver.state.countdown) + u16::from(w.receiver.format.factor) * q
 }
 
-// The way at that look, so many ticks on.
-fn leapt(mut w: Way, q: u16, ticks: u16) -> Way
-    requires { Leaps w q ticks }
-    ensures { result ≡ fly_at w ticks (w.receiver.state.look + q) 0 }
+// On to that look, so many ticks on.
+fn leap(w: &mut Way, q: u16, ticks: u16)
+    requires { Leaps w.old q ticks }
+    ensures { w.new ≡ fly_at w.old ticks (w.old.receiver.state.look + q) 0 }
 {
     let look = w.receiver.state.look + q;
-    let value = so_far(w.receiver.format, w.sender.frame.character, look);
-    let place = w.sender.frame.place + ticks;
-    w.sender.frame.place = place;
+    w.sender.frame.place = w.sender.frame.place + ticks;
     w.receiver.state.countdown = 0;
-    w.receiver.state.value = value;
+    w.receiver.state.value = so_far(w.receiver.format, w.sender.frame.character, look);
     w.receiver.state.look = look;
-    later(ticks, w)
+    later(w, ticks);
 }
 
-// Many ticks at once, of so many at most: to the last look of a frame that is followed, or those that only count. No character comes in them.
-fn advance(e: Ends, w: Way, room: u16) -> Moved
-    ensures { (result ≡ done_at_once e w room) × (unread result.way ≡ unread w) }
+// Many ticks at once, of so many at most: to the last look of a frame that is followed, or those that only count. How many they were; no
+// character comes in them.
+fn advance(w: &mut Way, e: &Ends, room: u16) -> u16
+    ensures ticks { result ≡ (done_at_once e.now w.old room).ticks }
+    ensures way { w.new ≡ (done_at_once e.now w.old room).way }
+    ensures none { unread w.new ≡ unread w.old }
 {
     if room == 0 {
-        return Moved { way: w, ticks: 0 };
+        return 0;
     }
-    let q = leap_looks(e, w, room);
+    let q = leap_looks(w, e, room);
     if 0 < q {
         let k = leap_ticks(w, q);
-        return Moved {
-            way: leapt(w, q, k),
-            ticks: k,
-        };
+        leap(w, q, k);
+        return k;
     }
-    let k = least(calm(e, w), room);
-    Moved {
-        way: skip(e, k, w),
-        ticks: k,
-    }
+    let k = calm(w, e).min(room);
+    skip(w, e, k);
+    k
 }
 
 // n ticks, or where it is watched for only those up to the first after which a character is unread: those that pass at once, then one by
-// itself, and so on. (One loop for both, as a function that is called at two places is not put into its callers.)
-pub fn along(w: Way, e: Ends, n: u16, watch: bool) -> Moved
-    ensures { result ≡ done_until e watch n w }
+// itself, and so on; how many there were. (`watch` stays a bool: two loops, as a closure makes them too, were a third slower on a full line, as
+// a function that is called at two places is not put into its callers: docs/DECISIONS.md.)
+// (The loop stays a `while`: a turn passes as many ticks as its step tells, so no range counts the turns.)
+pub fn along(w: &mut Way, e: &Ends, n: u16, watch: bool) -> u16
+    ensures ticks { result ≡ (done_until e.now watch n w.old).ticks }
+    ensures way { w.new ≡ (done_until e.now watch n w.old).way }
 {
-    let mut way = w;
     let mut left = n;
-    while (0 < left) & !(watch & (0 < way.receiver.unread)) {
-        let m = advance(e, way, left - 1);
-        let moved = m.way;
-        way = tick(moved, e);
-        left = left - m.ticks - 1;
+    while (0 < left) & !(watch & (0 < w.receiver.unread)) {
+        let k = advance(w, e, left - 1);
+        tick(w, e);
+        left = left - k - 1;
     }
-    Moved {
-        way: way,
-        ticks: n - left,
-    }
+    n - left
 }

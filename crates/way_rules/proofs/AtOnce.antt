@@ -13,10 +13,9 @@ use Rattle.line_rules.proofs.Choice.{either, each}
 use Rattle.line_rules.proofs.Table.{both}
 use Rattle.way_rules.specs.declared.Ends.{Ends}
 use Rattle.way_rules.specs.declared.Way.{Way}
-use Rattle.way_rules.specs.declared.Moved.{Moved}
 use Rattle.way_rules.specs.Along.{way_ticks}
 use Rattle.way_rules.specs.Calm.{least, places_left, way_calm}
-use Rattle.way_rules.specs.Leap.{last_look, both_busy, in_step, fly_at, leap_ticks, Ahead, looks_ahead, leap_looks, at_once, done_at_once}
+use Rattle.way_rules.specs.Leap.{Moved, last_look, both_busy, in_step, fly_at, leap_ticks, Ahead, looks_ahead, leap_looks, at_once, done_at_once}
 use Rattle.way_rules.proofs.Branches.{least_first, least_second, least_both, least_is}
 use Rattle.way_rules.proofs.Flown.{leaps}
 
@@ -120,8 +119,8 @@ module _ (e : Ends) (w : Way) (room : ℕ) where
     pub in_room_lem : r.ticks ≤ room
     pub way : r.way ≡ way_ticks e r.ticks w
 
-  pub moves_by : (r : Moved) → r ≡ done_at_once e w room → Moves r
-  moves_by r h = subst Moves (sym h) (record { in_room_lem = within_room; way = refl })
+  pub moves_by : (k : ℕ) (v : Way) → k ≡ (done_at_once e w room).ticks → v ≡ (done_at_once e w room).way → Moves (record { way = v; ticks = k })
+  moves_by k v t h = subst Moves (sym (ap₂ (λ (x : Way) (n : ℕ). record { way = x; ticks = n }) h t)) (record { in_room_lem = within_room; way = refl })
 
   -- with no room nothing is done
   pub none_done : room ≡ 0 → record { way = w; ticks = 0 } ≡ done_at_once e w room

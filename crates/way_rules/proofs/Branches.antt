@@ -1,14 +1,12 @@
 -- What the ways out of the code are by the definitions.
 -- Assumes nothing.
-use Prim.Native.Nat.{ℕ, suc, ◌+◌, ◌-◌, ◌≤◌, ◌<◌}
+use Prim.Native.Nat.{ℕ, suc, min, ◌+◌, ◌-◌, ◌≤◌, ◌<◌}
 use native.Mathlib.Omega.{arith}
 use mathlib.Core.Path.{◌≡◌, refl, ap, sym, subst, ◌∙◌}
 use mathlib.Core.Bool.{Bool, true, false}
 use lib.Dec.{ltb}
 use borrow.Author.Tests.{lt-ltb, le-ltb, ltb-true, ltb-false}
-use Rattle.line_rules.specs.Sending.{frame_length}
-use Rattle.link_rules.specs.declared.Frame.{Frame}
-use Rattle.way_rules.specs.Calm.{least, places_left}
+use Rattle.way_rules.specs.Calm.{least}
 
 -- == the lesser ==
 
@@ -17,6 +15,14 @@ least_first m n h = rw (lt-ltb m n h)
 
 pub least_second : (m n : ℕ) → n ≤ m → least m n ≡ n
 least_second m n h = rw (le-ltb m n h)
+
+-- as the library has it
+pub least_min : (m n k : ℕ) → k ≡ min m n → k ≡ least m n
+least_min m n k h = go (ltb m n) refl
+  where
+    go : (b : Bool) → ltb m n ≡ b → k ≡ least m n
+    go true e = rw e (omega (arith, h, ltb-true m n e))
+    go false e = rw e (omega (arith, h, ltb-false m n e))
 
 -- it is at most either
 pub record Least (m n k : ℕ) : Type 0 where
@@ -50,18 +56,3 @@ least_again m n j k h i =
 
 pub least_none : (m n : ℕ) → m ≡ 0 → 0 ≡ least m n
 least_none m n e = let q : 0 ≡ least m n = omega (arith, (least_both m n).first) in q
-
--- == the places of a frame that are left, of l in all ==
-
-module _ (g : Frame) (l : ℕ) (q : l ≡ frame_length g.format) where
-  in_all : least l 65536 - suc g.place ≡ places_left g
-  in_all = ap (λ (k : ℕ). least k 65536 - suc g.place) q
-
-  pub left_none : l ≤ g.place + 1 → 0 ≡ places_left g
-  left_none h = (let e : 0 ≡ least l 65536 - suc g.place = omega (arith, (least_both l 65536).first) in e) ∙ in_all
-
-  pub left_cut : 65536 ≤ l → 65535 - g.place ≡ places_left g
-  left_cut h = (let e : 65535 - g.place ≡ least l 65536 - suc g.place = omega (arith, least_second l 65536 h) in e) ∙ in_all
-
-  pub left_all : l < 65536 → l - g.place - 1 ≡ places_left g
-  left_all h = (let e : l - g.place - 1 ≡ least l 65536 - suc g.place = omega (arith, least_first l 65536 h) in e) ∙ in_all

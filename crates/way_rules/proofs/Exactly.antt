@@ -22,9 +22,8 @@ use Rattle.line_rules.proofs.Table.{both}
 use Rattle.link_rules.specs.declared.Frame.{Frame}
 use Rattle.link_rules.specs.declared.SenderHalf.{SenderHalf}
 use Rattle.link_rules.specs.declared.ReceiverHalf.{ReceiverHalf}
-use Rattle.link_rules.specs.declared.Received.{Received}
 use Rattle.link_rules.specs.Transmitting.{frame_next, transmit}
-use Rattle.link_rules.specs.Hearing.{under_way, receive}
+use Rattle.link_rules.specs.Hearing.{Received, under_way, receive}
 use Rattle.link_rules.specs.Within.{holding_in_range, busy_in_range, free_in_range, frame_in_range, countdown_in_range, value_in_range, wrong_in_range, assembly_in_range, state_in_range, sender_in_range, receiver_in_range}
 use Rattle.link_rules.proofs.AtRest.{in_range_clear}
 use Rattle.link_rules.proofs.Halves.{length_bound, frame_ends, off_leaves, receive_under, hear_state}

@@ -21,9 +21,8 @@ use Rattle.line_rules.proofs.Table.{both}
 use Rattle.link_rules.specs.declared.Frame.{Frame}
 use Rattle.link_rules.specs.declared.SenderHalf.{SenderHalf}
 use Rattle.link_rules.specs.declared.ReceiverHalf.{ReceiverHalf}
-use Rattle.link_rules.specs.declared.Sent.{Sent}
 use Rattle.link_rules.specs.Parts.{with_frame, sender_later, receiver_later}
-use Rattle.link_rules.specs.Transmitting.{frame_at, frame_tick}
+use Rattle.link_rules.specs.Transmitting.{Sent, frame_at, frame_tick}
 use Rattle.link_rules.specs.Hearing.{after_sample, receive}
 use Rattle.link_rules.proofs.AtRest.{quietly}
 use Rattle.link_rules.proofs.Halves.{transmit_under, receive_under}

@@ -14,9 +14,8 @@ use Rattle.line_rules.proofs.Frames.{level_stop}
 use Rattle.line_rules.proofs.Table.{both}
 use Rattle.link_rules.specs.declared.Frame.{Frame}
 use Rattle.link_rules.specs.declared.SenderHalf.{SenderHalf}
-use Rattle.link_rules.specs.declared.Sent.{Sent}
 use Rattle.link_rules.specs.Parts.{no_frame, with_frame, with_guard, sender_later}
-use Rattle.link_rules.specs.Transmitting.{next_place, frame_at, frame_next, frame_tick, break_tick, mark_tick, transmit}
+use Rattle.link_rules.specs.Transmitting.{Sent, next_place, frame_at, frame_next, frame_tick, break_tick, mark_tick, transmit}
 use Rattle.link_rules.proofs.Halves.{transmit_under}
 use Rattle.way_rules.specs.declared.Ends.{Ends}
 use Rattle.way_rules.specs.Calm.{endless, breaks, places_left, sender_calm, stopping, bit_left, frame_holds, sender_level, sender_holds, sender_keeps, sender_moved, sender_skipped}

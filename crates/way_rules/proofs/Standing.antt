@@ -12,9 +12,8 @@ use Rattle.line_rules.proofs.Choice.{not_so}
 use Rattle.line_rules.proofs.Table.{both}
 use Rattle.link_rules.specs.declared.SenderHalf.{SenderHalf}
 use Rattle.link_rules.specs.declared.ReceiverHalf.{ReceiverHalf}
-use Rattle.link_rules.specs.declared.Sent.{Sent}
 use Rattle.link_rules.specs.Parts.{sender_later, receiver_later}
-use Rattle.link_rules.specs.Transmitting.{idle_tick, transmit}
+use Rattle.link_rules.specs.Transmitting.{Sent, idle_tick, transmit}
 use Rattle.link_rules.specs.Hearing.{receive}
 use Rattle.link_rules.specs.Within.{clear}
 use Rattle.link_rules.proofs.AtRest.{quietly, is_clear, stays, rest_stays}

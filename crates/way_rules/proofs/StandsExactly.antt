@@ -19,11 +19,9 @@ use Rattle.line_rules.proofs.Table.{both}
 use Rattle.link_rules.specs.declared.Frame.{Frame}
 use Rattle.link_rules.specs.declared.SenderHalf.{SenderHalf}
 use Rattle.link_rules.specs.declared.ReceiverHalf.{ReceiverHalf}
-use Rattle.link_rules.specs.declared.Received.{Received}
-use Rattle.link_rules.specs.declared.Sent.{Sent}
 use Rattle.link_rules.specs.Parts.{sender_later, receiver_later}
-use Rattle.link_rules.specs.Transmitting.{next_place, frame_next, transmit}
-use Rattle.link_rules.specs.Hearing.{under_way, receive}
+use Rattle.link_rules.specs.Transmitting.{Sent, next_place, frame_next, transmit}
+use Rattle.link_rules.specs.Hearing.{Received, under_way, receive}
 use Rattle.link_rules.specs.Within.{receiver_in_range}
 use Rattle.link_rules.proofs.AtRest.{in_range_clear}
 use Rattle.link_rules.proofs.Halves.{off_leaves, receive_under, hear_state}

@@ -15,7 +15,7 @@ use Rattle.link_rules.specs.Hearing.{arrives}
 use Rattle.link_rules.proofs.Halves.{unread_after}
 use Rattle.way_rules.specs.declared.Ends.{Ends}
 use Rattle.way_rules.specs.declared.Way.{Way}
-use Rattle.way_rules.specs.declared.Moved.{Moved}
+use Rattle.way_rules.specs.Leap.{Moved}
 use Rattle.way_rules.specs.Along.{sent, received, way_tick, way_ticks}
 use Rattle.way_rules.specs.Calm.{way_calm, way_skipped}
 use Rattle.way_rules.specs.Until.{least_below, unread, until_unread, done_until, LeastBelow}

@@ -1,24 +1,21 @@
 -- One way of a line: the sending half at one end, the receiving half at the other, and the flags that they set. Document 01, "Sending, by transmit
 -- ticks" and "Receiving, by receive ticks"; what the ticks go by, conditions and formats, stays as it is for as long as no call is made.
 -- Assumes nothing.
-use Rattle.std.specs.Prelude.{ℕ, zero, suc, Bool, ◌&&◌}
-use Rattle.line_rules.specs.declared.Heard.{Heard}
-use Rattle.line_rules.specs.declared.Heard.TheVariants.{Nothing, Character}
+use Rattle.std.specs.Prelude.{ℕ, zero, suc, Bool, ◌&&◌, Option, None, Some}
+use Rattle.line_rules.specs.declared.Arrival.{Arrival}
 use Rattle.line_rules.specs.declared.Format.{Format}
 use Rattle.line_rules.specs.declared.Sampled.{Sampled}
 use Rattle.line_rules.specs.Sending.{or_set}
-use Rattle.link_rules.specs.declared.Sent.{Sent}
-use Rattle.link_rules.specs.declared.Received.{Received}
-use Rattle.link_rules.specs.Transmitting.{transmit}
-use Rattle.link_rules.specs.Hearing.{after_sample, receive}
+use Rattle.link_rules.specs.Transmitting.{Sent, transmit}
+use Rattle.link_rules.specs.Hearing.{Received, after_sample, receive}
 use Rattle.way_rules.specs.declared.Faults.{Faults}
 use Rattle.way_rules.specs.declared.Ends.{Ends}
 use Rattle.way_rules.specs.declared.Way.{Way}
 
 -- what arrives sets flags and clears none: a stop of 0, a register found unread, a wrong parity
-abbrev pub noted : Faults → Bool → Heard → Faults
-noted f overrun Nothing = f
-noted f overrun (Character a) =
+abbrev pub noted : Faults → Bool → Option Arrival → Faults
+noted f overrun None = f
+noted f overrun (Some a) =
     record { framing = or_set a.framing f.framing; overrun = or_set overrun f.overrun; parity = or_set a.parity f.parity }
 
 -- the sending half's tick

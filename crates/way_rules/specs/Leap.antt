@@ -10,10 +10,14 @@ use Rattle.link_rules.specs.Parts.{with_frame, sender_later, receiver_later}
 use Rattle.link_rules.specs.Transmitting.{frame_at}
 use Rattle.way_rules.specs.declared.Ends.{Ends}
 use Rattle.way_rules.specs.declared.Way.{Way}
-use Rattle.way_rules.specs.declared.Moved.{Moved}
 use Rattle.way_rules.specs.Parts.{with_state}
 use Rattle.way_rules.specs.Along.{way_ticks}
 use Rattle.way_rules.specs.Calm.{least, places_left, way_calm}
+
+-- a way some ticks on
+pub record Moved : Type 0 where
+  pub way : Way
+  pub ticks : ℕ
 
 -- the number of the look at the stop: n + p + 1
 abbrev pub last_look : Format → ℕ

@@ -5,7 +5,7 @@ use Rattle.std.specs.Prelude.{ℕ, zero, suc, ◌≤◌, ◌<◌, ◌≡◌, Boo
 use Rattle.line_rules.specs.Sending.{on}
 use Rattle.way_rules.specs.declared.Ends.{Ends}
 use Rattle.way_rules.specs.declared.Way.{Way}
-use Rattle.way_rules.specs.declared.Moved.{Moved}
+use Rattle.way_rules.specs.Leap.{Moved}
 use Rattle.way_rules.specs.Along.{way_ticks}
 
 -- the least number below a limit for which a test holds; the limit where there is none

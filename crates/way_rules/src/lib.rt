@@ -18,7 +18,7 @@ pub struct Ends {
     pub hear: Format,
 }
 
-// The flags of what arrives.
+// The flags of what arrives: bytes, as the device that C lends has them.
 #[derive(Clone, Copy)]
 pub struct Faults {
     pub framing: u8,
@@ -27,17 +27,11 @@ pub struct Faults {
 }
 
 // What ticks move: the two halves, the empty-mark of the end that sends and the flags of the end that receives.
+// (`empty` is a byte for the reason of `Faults`: the device that C lends has one.)
 #[derive(Clone, Copy)]
 pub struct Way {
     pub sender: SenderHalf,
     pub receiver: ReceiverHalf,
     pub empty: u8,
     pub faults: Faults,
-}
-
-// A way some ticks on.
-#[derive(Clone, Copy)]
-pub struct Moved {
-    pub way: Way,
-    pub ticks: u16,
 }

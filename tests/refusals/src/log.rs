@@ -173,6 +173,20 @@ pub fn function_lines(source: &str, name: &str) -> Option<(usize, usize)> {
     Some((first, first + length + 1))
 }
 
+/// The same of a method, which stands one step in from its `impl`.
+fn method_lines(source: &str, of: &str, name: &str) -> Option<(usize, usize)> {
+    let start = source
+        .lines()
+        .position(|line| line == format!("impl {of} {{"))?
+        + 1;
+    let inside = || source.lines().skip(start).take_while(|line| *line != "}");
+    let first = inside()
+        .position(|line| line.strip_prefix("    ").and_then(function_head) == Some(name))?
+        + 1;
+    let length = inside().skip(first).position(|line| line == "    }")?;
+    Some((start + first, start + first + length + 1))
+}
+
 /// The functions of a source file in which a line has this text; none where it stands between functions, as a constant does.
 pub fn functions_with<'a>(source: &'a str, text: &str) -> Vec<&'a str> {
     let names = source.lines().filter_map(function_head);
@@ -195,18 +209,26 @@ pub struct Function {
     pub proofs: String,
 }
 
-/// The function of the crate in `room` with this name; `parity::odd` is `odd` of the module `parity`.
+/// The function of the crate in `room` with this name; `parity::odd` is `odd` of the module `parity`, and `Fields::push` is the method of the type.
 pub fn function(room: &Path, name: &str) -> Option<Function> {
     let mut path: Vec<&str> = name.split("::").collect();
     let last = path.pop()?;
-    let sources = if path.is_empty() {
+    let of = path
+        .last()
+        .filter(|word| word.starts_with(char::is_uppercase));
+    let modules = &path[..path.len() - usize::from(of.is_some())];
+    let sources = if modules.is_empty() {
         vec!["src/lib.rt".into(), "src/main.rt".into()]
     } else {
-        vec![format!("src/{}.rt", path.join("/"))]
+        vec![format!("src/{}.rt", modules.join("/"))]
     };
     let (source, lines) = sources.into_iter().find_map(|file| {
         let text = std::fs::read_to_string(room.join(&file)).ok()?;
-        Some((file, function_lines(&text, last)?))
+        let lines = match of {
+            Some(of) => method_lines(&text, of, last),
+            None => function_lines(&text, last),
+        };
+        Some((file, lines?))
     })?;
     let folder: String = path.iter().map(|part| format!("{part}/")).collect();
     // a function that calls itself has `+` before its name

@@ -7,7 +7,7 @@ use std::fs;
 use std::path::PathBuf;
 use std::sync::atomic::{AtomicUsize, Ordering};
 
-const SOURCE: &str = "// a crate\nfn plain(x: u8) -> u8\n    ensures { result ≡ x }\n{\n    x + 1\n}\n\npub fn proved(x: u8) -> u8\n    ensures { result ≡ x }\n{\n    plain(x)\n}\n";
+const SOURCE: &str = "// a crate\nfn plain(x: u8) -> u8\n    ensures { result ≡ x }\n{\n    x + 1\n}\n\npub fn proved(x: u8) -> u8\n    ensures { result ≡ x }\n{\n    plain(x)\n}\n\nimpl Pair {\n    fn plain(&self) -> u8 {\n        0\n    }\n}\n";
 
 /// An edited crate, in a folder of its own.
 fn room(name: &str) -> PathBuf {
@@ -136,6 +136,16 @@ fn a_function_is_refused_at_its_lines() {
     let open = "fn line::plain: no proof: expected answers in ./proofs/plain/Answers.antt; `search` did not prove `returns`; it calls `line::proved`, which is not proved\n";
     assert!(said("open", "# refused at: plain", open).is_empty());
     assert_eq!(said("other-open", "# refused at: proved", open).len(), 1);
+}
+
+#[test]
+fn a_method_is_refused_at_its_lines() {
+    let at = |line: usize| format!("note: src/lib.rt:{line}:1: {NOTE}\n");
+    assert!(said("method", "# refused at: Pair::plain", &at(15)).is_empty());
+    assert_eq!(said("beside", "# refused at: Pair::plain", &at(5)).len(), 1);
+    assert_eq!(said("plain", "# refused at: plain", &at(15)).len(), 1);
+    let open = "fn line::Pair::plain: no proof: `search` did not prove `returns`\n";
+    assert!(said("open", "# refused at: Pair::plain", open).is_empty());
 }
 
 #[test]

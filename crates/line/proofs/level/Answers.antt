@@ -6,17 +6,17 @@ use Rattle.line.proofs.level.Goals as goal
 
 pub returns-then-start_never_ends-at : goal.returns-then-start_never_ends-at
 returns-then-start_never_ends-at c =
-    sym (level_start c.args.f c.args.c c.args.place (rw (← c.start_never_ends.ensures, ← c.before_data.ensures, ← c.long-at.ensures) c.if-start_never_ends-at.true))
+    sym (level_start c.args.f c.args.c c.args.place (rw (← c.from-at.ensures, ← c.from-before_data.ensures) c.if-start_never_ends-at.true))
 
 pub returns-then-at-before_parity : goal.returns-then-at-before_parity
 returns-then-at-before_parity c =
-    let b = behind_start c.args.f.factor c.args.place (rw (← c.start_never_ends.ensures, ← c.before_data.ensures, ← c.long-at.ensures) c.if-start_never_ends-at.false) in
-    rw (c.data_level.ensures, c.data_bit.ensures) (sym (level_data c.args.f c.args.c c.args.place b.1 (omega arith)))
+    let b = behind_start c.args.f.factor c.args.place (rw (← c.from-at.ensures, ← c.from-before_data.ensures) c.if-start_never_ends-at.false) in
+    rw (c.bit_at.ensures, c.data_bit.ensures) (sym (level_data c.args.f c.args.c c.args.place b.1 (omega arith)))
 
 pub returns-then-at-before_stop : goal.returns-then-at-before_stop
 returns-then-at-before_stop c = c.parity_level.ensures ∙ sym (level_parity c.args.f c.args.c c.args.place (omega arith) (omega arith))
 
 pub returns : goal.returns
 returns c =
-    let b = behind_start c.args.f.factor c.args.place (rw (← c.start_never_ends.ensures, ← c.before_data.ensures, ← c.long-at.ensures) c.if-start_never_ends-at.false) in
+    let b = behind_start c.args.f.factor c.args.place (rw (← c.from-at.ensures, ← c.from-before_data.ensures) c.if-start_never_ends-at.false) in
     sym (level_stop c.args.f c.args.c c.args.place b.0 (omega arith))

@@ -1,9 +1,9 @@
--- The loop of `run_polls::batches`: no more bytes are read than there is space for.
-use Rattle.std.proofs.Common.{◌-◌, ◌≤◌}
+-- The loop of `run_polls::batches`: what is left of the space grows less.
+use Rattle.std.proofs.Common.{◌≤◌, length}
 use Rattle.run_polls.proofs.batches.Given as goal
 
-abbrev pub invariant-loop-count : goal.invariant-loop-count
-invariant-loop-count g l = l.count ≤ 65536
+abbrev pub invariant-loop-input : goal.invariant-loop-input
+invariant-loop-input g l = length l.room ≤ 65536
 
-abbrev pub decreases-loop-count : goal.decreases-loop-count
-decreases-loop-count g l = 65536 - l.count
+abbrev pub decreases-loop-input : goal.decreases-loop-input
+decreases-loop-input g l = length l.room

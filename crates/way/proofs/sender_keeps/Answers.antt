@@ -9,14 +9,14 @@ pub returns-then-s-gt0 : goal.returns-then-s-gt0
 returns-then-s-gt0 c =
     let a = c.args in
     let t = lt-ltb 0 _ c.if-s-gt0.true in
-    c.frame_keeps.ensures ∙ keeps_as a.e a.s a.p _ _ (frame_levels a.e a.s _ t refl) (frame_holds_lem a.e a.s t)
+    c.frame_keeps.ensures ∙ keeps_as a.e.now a.s.now a.p _ _ (frame_levels a.e.now a.s.now _ t refl) (frame_holds_lem a.e.now a.s.now t)
 
 pub returns-then-breaks : goal.returns-then-breaks
 returns-then-breaks c =
     let a = c.args in
     let t = le-ltb 0 _ c.if-s-gt0.false in
     let b = sym c.breaks.ensures ∙ c.if-breaks.true in
-    c.only.ensures ∙ keeps_as a.e a.s a.p false 65535 (break_level a.e a.s t b) (break_holds a.e a.s t b)
+    c.only.ensures ∙ keeps_as a.e.now a.s.now a.p false 65535 (break_level a.e.now a.s.now t b) (break_holds a.e.now a.s.now t b)
 
 pub returns-then-s-gt0-2 : goal.returns-then-s-gt0-2
 returns-then-s-gt0-2 c =
@@ -24,7 +24,7 @@ returns-then-s-gt0-2 c =
     let t = le-ltb 0 _ c.if-s-gt0.false in
     let b = sym c.breaks.ensures ∙ c.if-breaks.false in
     let g = lt-ltb 0 _ c.if-s-gt0-2.true in
-    c.only-then-s-gt0-2.ensures ∙ keeps_as a.e a.s a.p true a.s.guard (guard_level a.e a.s t b g) (guard_holds a.e a.s t b g)
+    c.only-then-s-gt0-2.ensures ∙ ap (λ (n : ℕ). cond (eqb a.p 1) n 0) c.from.ensures ∙ keeps_as a.e.now a.s.now a.p true a.s.now.guard (guard_level a.e.now a.s.now t b g) (guard_holds a.e.now a.s.now t b g)
 
 pub returns : goal.returns
 returns c =
@@ -33,5 +33,5 @@ returns c =
     let b = sym c.breaks.ensures ∙ c.if-breaks.false in
     let g = le-ltb 0 _ c.if-s-gt0-2.false in
     c.only-2.ensures
-    ∙ ap (λ (x : ℕ). cond (eqb a.p x) 65535 0) c.number.ensures.0
-    ∙ keeps_as a.e a.s a.p (not (a.e.ready && on a.s.full)) 65535 (rest_level a.e a.s t b g) (rest_holds a.e a.s t b g)
+    ∙ ap (λ (x : ℕ). cond (eqb a.p x) 65535 0) c.from-2.ensures
+    ∙ keeps_as a.e.now a.s.now a.p (not (a.e.now.ready && on a.s.now.full)) 65535 (rest_level a.e.now a.s.now t b g) (rest_holds a.e.now a.s.now t b g)

@@ -4,4 +4,4 @@ use Rattle.way_rules.proofs.Ways.{skips}
 use Rattle.way.proofs.skip.Goals as goal
 
 pub returns : goal.returns
-returns c = c.skipped.ensures ∙ skips c.args.e c.args.k c.args.w (omega (arith, c.if-k-eq0.false)) c.requires
+returns c = c.count.ensures ∙ skips c.args.e.now c.args.k c.args.w.now (omega (arith, c.if-k-eq0.false)) c.requires

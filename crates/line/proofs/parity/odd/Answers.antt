@@ -1,8 +1,9 @@
 -- `line::parity::odd` meets its contract. The table's rule is tested over all 256 entries at once, and carried to each byte by one law.
-use Rattle.std.proofs.Common.{◌≡◌, ℕ, ◌<◌, Bool, true, eqb, List, length, get_or, ap, ◌∙◌, zero-add, arith, eqb-true}
+use Rattle.std.proofs.Common.{◌≡◌, ℕ, ◌<◌, Bool, true, eqb, List, length, get_or, refl, ap, ◌∙◌, zero-add, arith, eqb-true}
 use Rattle.line_rules.specs.Sending.{bit, odd_ones}
 use Rattle.line_rules.proofs.Bits.{is_one}
 use Rattle.line_rules.proofs.Table.{every, entry}
+use Rattle.line.specs.declared.parity.TheConstants.{ODD}
 use Rattle.line.proofs.parity.odd.Goals as goal
 
 -- entry c is 1 where c has an odd number of ones, and 0 elsewhere
@@ -18,5 +19,4 @@ ruled t c h l e =
 pub returns : goal.returns
 unfolding right odd_ones
 returns c =
-    let byte : c.args.c < 256 = c.ranges.c.fits in
-    simp (ruled, byte)
+    rw c.from.ensures (ruled ODD c.args.c c.ranges.c.fits refl refl)
