@@ -1,5 +1,5 @@
--- The pair as a struct that is lent, the replies of the acts by value on it, what the lent calls promise, that a run and a wait of a pair that
--- stands only count, and that a wait may be spared.
+-- The pair as a struct that is lent, what the lent calls promise, that a run and a wait of a pair that stands only count, and that a wait may be
+-- spared.
 -- Assumes nothing.
 use Prim.Native.Nat.{ℕ, ◌+◌, ◌*◌, ◌%◌, ◌≤◌}
 use native.Mathlib.Omega.{arith}

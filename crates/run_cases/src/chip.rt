@@ -3,7 +3,7 @@ use super::failed::Failed;
 use ins2651_rules::{Device, Refusal};
 use line_rules::Format;
 
-pub fn show(rt: &impl Print, d: &mut Device, address: u8) -> Result<(), Failed> {
+pub(crate) fn show(rt: &impl Print, d: &mut Device, address: u8) -> Result<(), Failed> {
     match ins2651::read(d, address) {
         Ok(value) => print!(rt; "R\t{address}\t0\t{value}")?,
         Err(refusal) => print!(rt; "R\t{address}\t{}\t0", u8::from(refusal))?,
@@ -16,7 +16,7 @@ pub fn show(rt: &impl Print, d: &mut Device, address: u8) -> Result<(), Failed> 
 }
 
 // The start of the last frame, and both tallies.
-pub fn clocks(rt: &impl Print, d: &Device) -> Result<(), Failed> {
+pub(crate) fn clocks(rt: &impl Print, d: &Device) -> Result<(), Failed> {
     let start = ins2651::start(d).0;
     let transmitted = ins2651::transmit_tally(d).0;
     let received = ins2651::receive_tally(d).0;
@@ -25,7 +25,7 @@ pub fn clocks(rt: &impl Print, d: &Device) -> Result<(), Failed> {
 }
 
 // Document 01's set-up: reset, both modes, a command, pins low.
-pub fn set_up(mode1: u8, mode2: u8, command: u8) -> Result<Device, Refusal> {
+pub(crate) fn set_up(mode1: u8, mode2: u8, command: u8) -> Result<Device, Refusal> {
     let mut d = ins2651::reset();
     ins2651::write(&mut d, 2, mode1)?;
     ins2651::write(&mut d, 2, mode2)?;
@@ -145,7 +145,7 @@ fn starts(rt: &impl Print) -> Result<(), Failed> {
     show(rt, &mut fresh, 0)
 }
 
-pub fn cases(rt: &impl Print) -> Result<(), Failed> {
+pub(crate) fn cases(rt: &impl Print) -> Result<(), Failed> {
     two_unread(rt)?;
     addresses_3_and_4(rt)?;
     zeros(rt, 32)?;

@@ -5,7 +5,7 @@ use std::io;
 use thiserror::Error;
 
 #[derive(Debug, Drop, Error)]
-pub enum Failed {
+pub(crate) enum Failed {
     #[error("refused: {0:?}")]
     Refused(#[from] Refusal),
     #[error("refused: {0:?}")]

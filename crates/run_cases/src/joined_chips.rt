@@ -52,7 +52,7 @@ fn fault_code(rt: &impl Print) -> Result<(), Failed> {
     show_clocks(rt, &p)
 }
 
-pub fn cases(rt: &impl Print) -> Result<(), Failed> {
+pub(crate) fn cases(rt: &impl Print) -> Result<(), Failed> {
     worked_session(rt)?;
     fault_code(rt)
 }

@@ -103,7 +103,7 @@ impl<H: Hears> Recording<H> {
 }
 
 // Mark, pulses of so many zeros with a 1 between them, which may serve as the mark for the next one, then ones.
-pub fn pulses(rt: &impl Print, f: Format, zeros: &[u8]) -> io::Result<()> {
+pub(crate) fn pulses(rt: &impl Print, f: Format, zeros: &[u8]) -> io::Result<()> {
     print!(rt; "R\t{}", Columns(f))?;
     for n in zeros {
         print!(rt; "\t{n}")?;
@@ -211,7 +211,7 @@ fn stops(factor: u8) -> &'static [u8] {
 }
 
 // A recording in each format.
-pub fn sweeps(rt: &impl Print) -> io::Result<()> {
+pub(crate) fn sweeps(rt: &impl Print) -> io::Result<()> {
     let mut draws = Draws { last: 1 };
     for factor in [1, 16, 64] {
         for length in 5..=8 {
