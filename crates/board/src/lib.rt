@@ -3,11 +3,13 @@
 // Whatever bytes the host lends, and however many channels, the call is what `board_rules` says of them.
 #![tactic(auto)]
 
-ghost use Rattle.std.specs.Prelude.{◌≡◌, length};
+ghost use Rattle.std.specs.Prelude.{◌≡◌, ◌*◌, false, length};
 ghost use Rattle.board_rules.specs.Interrupts.{transmit_status, receive_status};
 ghost use Rattle.board_rules.specs.Ports;
 ghost use Rattle.board_rules.specs.Ports.{In, Out, Reset, Pins, Transmit, Receive, Outputs, Interrupts};
 ghost use Rattle.board_rules.specs.Runs.{answer, board_after, room_after};
+ghost use Rattle.board_walks.specs.Plans.{plan_in, plan_out, plan_named, plan_interrupts, plan_reset};
+ghost use Rattle.board_walks.specs.Planned.{Planned, AboutOne, OneOrAll, status_shown, lines_shown};
 ghost use Rattle.board.specs.Answers;
 ghost use Rattle.board.specs.Answers.{OnChannel};
 
@@ -185,6 +187,8 @@ pub fn interfacer3_in(board: &mut Board, room: &mut [Device], port: u8) -> u16
     ensures answer { result ≡ answer board.old room.old (In port) }
     ensures board { board.new ≡ board_after board.old room.old (In port) }
     ensures room { room.new ≡ room_after board.old room.old (In port) }
+    ensures plan { OneOrAll (plan_in board.old (length room.old) port) result board.new room.old room.new }
+    ensures all { (plan_in board.old (length room.old) port).ends ≡ false → (plan_in board.old (length room.old) port).single ≡ false → result ≡ status_shown room.old port }
 {
     answered(read_port(board, room, port))
 }
@@ -194,6 +198,7 @@ pub fn interfacer3_out(board: &mut Board, room: &mut [Device], port: u8, value: 
     ensures answer { result ≡ answer board.old room.old (Out port value) }
     ensures board { board.new ≡ board_after board.old room.old (Out port value) }
     ensures room { room.new ≡ room_after board.old room.old (Out port value) }
+    ensures plan { AboutOne (plan_out board.old (length room.old) port value) result board.new room.old room.new }
 {
     answered(write_port(board, room, port, value))
 }
@@ -203,6 +208,7 @@ pub fn interfacer3_reset(board: &mut Board, room: &mut [Device]) -> u16
     ensures answer { result ≡ answer board.old room.old Reset }
     ensures board { board.new ≡ board_after board.old room.old Reset }
     ensures room { room.new ≡ room_after board.old room.old Reset }
+    ensures plan { Planned (plan_reset board.old (length room.old)) (plan_reset board.old (length room.old)).answer result board.new room.old room.new }
 {
     answered(reset_all(board, room))
 }
@@ -220,6 +226,7 @@ pub fn interfacer3_pins(
     ensures answer { result ≡ answer board.old room.old (Pins channel dsr dcd cts) }
     ensures board { board.new ≡ board_after board.old room.old (Pins channel dsr dcd cts) }
     ensures room { room.new ≡ room_after board.old room.old (Pins channel dsr dcd cts) }
+    ensures plan { AboutOne (plan_named board.old (length room.old) channel) result board.new room.old room.new }
 {
     answered(on_channel(room, channel, |device| {
         host::ins2651_pins(device, dsr, dcd, cts) * 256
@@ -232,6 +239,7 @@ pub fn interfacer3_transmit(board: &mut Board, room: &mut [Device], channel: u8)
     ensures answer { result ≡ answer board.old room.old (Transmit channel) }
     ensures board { board.new ≡ board_after board.old room.old (Transmit channel) }
     ensures room { room.new ≡ room_after board.old room.old (Transmit channel) }
+    ensures plan { AboutOne (plan_named board.old (length room.old) channel) result board.new room.old room.new }
 {
     answered(on_channel(room, channel, host::ins2651_transmit))
 }
@@ -242,6 +250,7 @@ pub fn interfacer3_receive(board: &mut Board, room: &mut [Device], channel: u8, 
     ensures answer { result ≡ answer board.old room.old (Receive channel level) }
     ensures board { board.new ≡ board_after board.old room.old (Receive channel level) }
     ensures room { room.new ≡ room_after board.old room.old (Receive channel level) }
+    ensures plan { AboutOne (plan_named board.old (length room.old) channel) result board.new room.old room.new }
 {
     answered(on_channel(room, channel, |device| {
         host::ins2651_receive(device, level) * 256
@@ -254,16 +263,19 @@ pub fn interfacer3_outputs(board: &mut Board, room: &mut [Device], channel: u8) 
     ensures answer { result ≡ answer board.old room.old (Outputs channel) }
     ensures board { board.new ≡ board_after board.old room.old (Outputs channel) }
     ensures room { room.new ≡ room_after board.old room.old (Outputs channel) }
+    ensures plan { AboutOne (plan_named board.old (length room.old) channel) result board.new room.old room.new }
 {
     answered(on_channel(room, channel, host::ins2651_outputs))
 }
 
 // The interrupt lines, a 1 where one is asserted: 65536 times the refusal, 256 times the receive byte and the transmit byte.
-#[tactic(auto, unfolding(board_rules::specs::Runs::answer, board_rules::specs::Runs::said, board_rules::specs::Runs::board_after, board_rules::specs::Runs::room_after))]
+#[tactic(auto, using(board_walks::proofs::Planned::lines_by_all), unfolding(board_rules::specs::Runs::answer, board_rules::specs::Runs::said, board_rules::specs::Runs::board_after, board_rules::specs::Runs::room_after))]
 pub fn interfacer3_interrupts(board: &mut Board, room: &mut [Device]) -> u32
     ensures answer { result ≡ answer board.old room.old Interrupts }
     ensures board { board.new ≡ board_after board.old room.old Interrupts }
     ensures room { room.new ≡ room_after board.old room.old Interrupts }
+    ensures plan { Planned (plan_interrupts board.old (length room.old)) ((plan_interrupts board.old (length room.old)).answer * 256) result board.new room.old room.new }
+    ensures all { (plan_interrupts board.old (length room.old)).ends ≡ false → result ≡ lines_shown board.old room.old }
 {
     // of 32 bits: made one with `answered`, the other seven calls would cast their answers up and down again
     read_lines(board, room).unwrap_or_else(|refusal| u32::from(u16::from(refusal)) * 65536)

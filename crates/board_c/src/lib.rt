@@ -2,9 +2,11 @@
 // include/interfacer3.h is C's view.
 #![tactic(auto)]
 
-ghost use Rattle.std.specs.Prelude.{◌≡◌};
+ghost use Rattle.std.specs.Prelude.{◌≡◌, ◌*◌, false, length};
 ghost use Rattle.board_rules.specs.Ports.{In, Out, Reset, Pins, Transmit, Receive, Outputs, Interrupts};
 ghost use Rattle.board_rules.specs.Runs.{answer, board_after, room_after};
+ghost use Rattle.board_walks.specs.Plans.{plan_in, plan_out, plan_named, plan_interrupts, plan_reset};
+ghost use Rattle.board_walks.specs.Planned.{Planned, AboutOne, OneOrAll, status_shown, lines_shown};
 
 use board_rules::Board;
 use ins2651_rules::Device;
@@ -15,6 +17,8 @@ pub extern "C" fn interfacer3_in(board: &mut Board, room: &mut [Device], port: u
     ensures answer { result ≡ answer board.old room.old (In port) }
     ensures board { board.new ≡ board_after board.old room.old (In port) }
     ensures room { room.new ≡ room_after board.old room.old (In port) }
+    ensures plan { OneOrAll (plan_in board.old (length room.old) port) result board.new room.old room.new }
+    ensures all { (plan_in board.old (length room.old) port).ends ≡ false → (plan_in board.old (length room.old) port).single ≡ false → result ≡ status_shown room.old port }
 {
     board::interfacer3_in(board, room, port)
 }
@@ -30,6 +34,7 @@ pub extern "C" fn interfacer3_out(
     ensures answer { result ≡ answer board.old room.old (Out port value) }
     ensures board { board.new ≡ board_after board.old room.old (Out port value) }
     ensures room { room.new ≡ room_after board.old room.old (Out port value) }
+    ensures plan { AboutOne (plan_out board.old (length room.old) port value) result board.new room.old room.new }
 {
     board::interfacer3_out(board, room, port, value)
 }
@@ -40,6 +45,7 @@ pub extern "C" fn interfacer3_reset(board: &mut Board, room: &mut [Device]) -> u
     ensures answer { result ≡ answer board.old room.old Reset }
     ensures board { board.new ≡ board_after board.old room.old Reset }
     ensures room { room.new ≡ room_after board.old room.old Reset }
+    ensures plan { Planned (plan_reset board.old (length room.old)) (plan_reset board.old (length room.old)).answer result board.new room.old room.new }
 {
     board::interfacer3_reset(board, room)
 }
@@ -57,6 +63,7 @@ pub extern "C" fn interfacer3_pins(
     ensures answer { result ≡ answer board.old room.old (Pins channel dsr dcd cts) }
     ensures board { board.new ≡ board_after board.old room.old (Pins channel dsr dcd cts) }
     ensures room { room.new ≡ room_after board.old room.old (Pins channel dsr dcd cts) }
+    ensures plan { AboutOne (plan_named board.old (length room.old) channel) result board.new room.old room.new }
 {
     board::interfacer3_pins(board, room, channel, dsr, dcd, cts)
 }
@@ -67,6 +74,7 @@ pub extern "C" fn interfacer3_transmit(board: &mut Board, room: &mut [Device], c
     ensures answer { result ≡ answer board.old room.old (Transmit channel) }
     ensures board { board.new ≡ board_after board.old room.old (Transmit channel) }
     ensures room { room.new ≡ room_after board.old room.old (Transmit channel) }
+    ensures plan { AboutOne (plan_named board.old (length room.old) channel) result board.new room.old room.new }
 {
     board::interfacer3_transmit(board, room, channel)
 }
@@ -82,6 +90,7 @@ pub extern "C" fn interfacer3_receive(
     ensures answer { result ≡ answer board.old room.old (Receive channel level) }
     ensures board { board.new ≡ board_after board.old room.old (Receive channel level) }
     ensures room { room.new ≡ room_after board.old room.old (Receive channel level) }
+    ensures plan { AboutOne (plan_named board.old (length room.old) channel) result board.new room.old room.new }
 {
     board::interfacer3_receive(board, room, channel, level)
 }
@@ -92,6 +101,7 @@ pub extern "C" fn interfacer3_outputs(board: &mut Board, room: &mut [Device], ch
     ensures answer { result ≡ answer board.old room.old (Outputs channel) }
     ensures board { board.new ≡ board_after board.old room.old (Outputs channel) }
     ensures room { room.new ≡ room_after board.old room.old (Outputs channel) }
+    ensures plan { AboutOne (plan_named board.old (length room.old) channel) result board.new room.old room.new }
 {
     board::interfacer3_outputs(board, room, channel)
 }
@@ -102,6 +112,8 @@ pub extern "C" fn interfacer3_interrupts(board: &mut Board, room: &mut [Device])
     ensures answer { result ≡ answer board.old room.old Interrupts }
     ensures board { board.new ≡ board_after board.old room.old Interrupts }
     ensures room { room.new ≡ room_after board.old room.old Interrupts }
+    ensures plan { Planned (plan_interrupts board.old (length room.old)) ((plan_interrupts board.old (length room.old)).answer * 256) result board.new room.old room.new }
+    ensures all { (plan_interrupts board.old (length room.old)).ends ≡ false → result ≡ lines_shown board.old room.old }
 {
     board::interfacer3_interrupts(board, room)
 }

@@ -10,3 +10,4 @@ pub mod Raises
 pub mod Shapes
 pub mod Promises
 pub mod Eight
+pub mod Planned

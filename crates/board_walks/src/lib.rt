@@ -1,5 +1,5 @@
 // Calls on a lent board and room that plan first, by their code: what each comes to is decided by value, the board stored, and a channel or all of
-// them lent. The theorems (docs/PROMISES.md, "`board`") are of any code of this form, any plan and any call of the chip; `board` itself plans no more.
+// them lent. The theorems (docs/PROMISES.md, "`board_walks`") are of any code of this form, any plan and any call of the chip; `board` itself plans no more.
 // No code stands here.
 #![tactic(auto)]
 

@@ -3,10 +3,10 @@
 // A call is the chip's own of that name. The ticks alone go by its acts: one that only counts stores no more than its tally (P4, docs/DECISIONS.md).
 #![tactic(auto)]
 
-ghost use Rattle.std.specs.Prelude.{◌≡◌};
+ghost use Rattle.std.specs.Prelude.{◌≡◌, IfOk, OnOk};
 ghost use Rattle.line_rules.specs.Sending.{bit};
 ghost use Rattle.ins2651_rules.specs.Shape.{reset_device};
-ghost use Rattle.ins2651_rules.specs.Ranges.{in_range};
+ghost use Rattle.ins2651_rules.specs.Ranges.{in_range, settled};
 ghost use Rattle.ins2651_rules.specs.Refusals.{told};
 ghost use Rattle.ins2651_rules.specs.RegisterReads;
 ghost use Rattle.ins2651_rules.specs.RegisterWrites;
@@ -15,11 +15,12 @@ ghost use Rattle.ins2651_rules.specs.Ticks;
 ghost use Rattle.ins2651_rules.specs.Looks;
 ghost use Rattle.ins2651_rules.specs.Stamps;
 ghost use Rattle.host.specs.Replies;
-ghost use Rattle.host.specs.Replies.{word, levels};
+ghost use Rattle.host.specs.Replies.{word, levels, heard, ticked};
 
 use ins2651_rules::{Device, OutputPins, Refusal};
 
-// An answer with the device after it. Theorems alone speak of it (`ticked_is_both`, by `ticked` of specs/Replies.antt; `meets` of proofs/Lent.antt), so it stays.
+// An answer with the device after it. No code makes one: the contract of `tick` speaks of it, by `ticked` of specs/Replies.antt, and so do `ticked_is_both` and
+// `meets` of proofs/Lent.antt.
 #[repr(C)]
 #[derive(Clone, Copy)]
 pub struct Reply {
@@ -80,10 +81,11 @@ fn transmit(d: &mut Device) -> u8
 }
 
 // A device that searches and hears a 1 only counts.
-#[tactic(auto, using(ins2651_rules::proofs::StaysStill::searches_still, ins2651_rules::proofs::Settled::settled_in), unfolding(ins2651_rules::specs::Ticks::receive))]
+#[tactic(auto, using(crate::proofs::Promises::heard_is_tick, ins2651_rules::proofs::StaysStill::searches_still, ins2651_rules::proofs::Settled::settled_in), unfolding(ins2651_rules::specs::Ticks::receive))]
 fn receive(d: &mut Device, level: u8) -> Result<(), Refusal>
     ensures answer { result ≡ told (Ticks.receive d.old level).refusal tt }
     ensures left { d.new ≡ (Ticks.receive d.old level).device }
+    ensures heard { OnOk result (d.new ≡ heard (settled d.old) level) }
 {
     ins2651::check_level(level)?;
     if ins2651::settle(d) && ins2651::searches(d, level) {
@@ -95,10 +97,11 @@ fn receive(d: &mut Device, level: u8) -> Result<(), Refusal>
 }
 
 // Where both ticks only count, one act counts both.
-#[tactic(auto, using(ins2651_rules::proofs::StaysStill::still_stays, ins2651_rules::proofs::Settled::settled_in), unfolding(ins2651_rules::specs::Ticks::tick))]
+#[tactic(auto, using(crate::proofs::Promises::ticked_is_both, ins2651_rules::proofs::StaysStill::still_stays, ins2651_rules::proofs::Settled::settled_in), unfolding(ins2651_rules::specs::Ticks::tick))]
 fn tick(d: &mut Device, level: u8) -> Result<u8, Refusal>
     ensures answer { result ≡ told (Ticks.tick d.old level).refusal (Ticks.tick d.old level).value }
     ensures left { d.new ≡ (Ticks.tick d.old level).device }
+    ensures ticked { IfOk result (λ sent. (sent ≡ (ticked (settled d.old) level).answer) × (d.new ≡ (ticked (settled d.old) level).device)) }
 {
     ins2651::check_level(level)?;
     if ins2651::settle(d) && ins2651::still(d, level) {

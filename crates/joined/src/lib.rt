@@ -98,16 +98,14 @@ fn one_way(from: &mut Device, to: &mut Device, n: u16, watch: bool) -> u16
     let count = way::along(&mut way, &ends_of(from, to), n, watch);
     from.sender = way.sender;
     from.flags.empty = way.empty;
-    ins2651::keep_status(from);
     to.receiver = way.receiver;
     to.flags.framing = way.faults.framing;
     to.flags.overrun = way.faults.overrun;
     to.flags.parity = way.faults.parity;
-    ins2651::keep_status(to);
     count
 }
 
-// The same, and as many ticks of the way back: as many joined ticks of a pair in range.
+// The same, and as many ticks of the way back, and at the end the byte of each: as many joined ticks of a pair in range.
 fn both_ways(from: &mut Device, to: &mut Device, n: u16, watch: bool) -> u16
     ensures count { result ≡ until_unread (ends_of from.old to.old) watch n (way_of from.old to.old) }
     ensures from { from.new ≡ with_ends from.old (along_way result from.old to.old) (along_way result to.old from.old) }
@@ -115,6 +113,8 @@ fn both_ways(from: &mut Device, to: &mut Device, n: u16, watch: bool) -> u16
 {
     let count = one_way(from, to, n, watch);
     one_way(to, from, count, false);
+    ins2651::keep_status(from);
+    ins2651::keep_status(to);
     count
 }
 

@@ -70,7 +70,7 @@ along_settled n p z = sym (two_ways n (settled_pair p) (settled_both p)) ∙ set
 pub until_all : (e : Ends) (n : ℕ) (w : Way) → until_unread e false n w ≡ n
 until_all e n w = ap (λ (m : Moved). m.ticks) (unwatched e n w)
 
--- one way and then the other, from the devices that the first leaves, are both
+-- one way and then the other, from the devices that the first leaves, and then the byte of each, are both
 module _ (k : ℕ) (d e : Device) where
   abbrev out : Device
   out = with_sent d (along_way k d e)
@@ -78,8 +78,8 @@ module _ (k : ℕ) (d e : Device) where
   abbrev in_ : Device
   in_ = with_heard e (along_way k d e)
 
-  pub heard_after : (m : ℕ) (d' e' : Device) → d' ≡ out → e' ≡ in_ → m ≡ until_unread (ends_of e' d') false k (way_of e' d') → with_heard d' (along_way m e' d') ≡ with_ends d (along_way k d e) (along_way k e d)
-  heard_after m d' e' x y h = ap₂ (λ (n : ℕ) (f : Device × Device). with_heard f.0 (along_way n f.1 f.0)) (h ∙ until_all (ends_of e' d') k (way_of e' d')) (λ i. (x i, y i))
+  pub heard_after : (m : ℕ) (d' e' : Device) → d' ≡ out → e' ≡ in_ → m ≡ until_unread (ends_of e' d') false k (way_of e' d') → status_kept (with_heard d' (along_way m e' d')) ≡ with_ends d (along_way k d e) (along_way k e d)
+  heard_after m d' e' x y h = ap₂ (λ (n : ℕ) (f : Device × Device). status_kept (with_heard f.0 (along_way n f.1 f.0))) (h ∙ until_all (ends_of e' d') k (way_of e' d')) (λ i. (x i, y i))
 
-  pub sent_after : (m : ℕ) (d' e' : Device) → d' ≡ out → e' ≡ in_ → m ≡ until_unread (ends_of e' d') false k (way_of e' d') → with_sent e' (along_way m e' d') ≡ with_ends e (along_way k e d) (along_way k d e)
-  sent_after m d' e' x y h = ap₂ (λ (n : ℕ) (f : Device × Device). with_sent f.1 (along_way n f.1 f.0)) (h ∙ until_all (ends_of e' d') k (way_of e' d')) (λ i. (x i, y i))
+  pub sent_after : (m : ℕ) (d' e' : Device) → d' ≡ out → e' ≡ in_ → m ≡ until_unread (ends_of e' d') false k (way_of e' d') → status_kept (with_sent e' (along_way m e' d')) ≡ with_ends e (along_way k e d) (along_way k d e)
+  sent_after m d' e' x y h = ap₂ (λ (n : ℕ) (f : Device × Device). status_kept (with_sent f.1 (along_way n f.1 f.0))) (h ∙ until_all (ends_of e' d') k (way_of e' d')) (λ i. (x i, y i))

@@ -7,7 +7,7 @@ use Rattle.way_rules.specs.declared.Way.{Way}
 use Rattle.way_rules.specs.Along.{way_ticks}
 use Rattle.way_rules.specs.Calm.{way_stands}
 use Rattle.ins2651_rules.specs.declared.Device.{Device}
-use Rattle.ins2651_rules.specs.Shape.{with_parts, with_sender, with_receiver, device_later, with_errors, with_empty}
+use Rattle.ins2651_rules.specs.Shape.{with_parts, device_later, with_errors, with_empty}
 use Rattle.ins2651_rules.specs.Modes.{send_format, receive_format}
 use Rattle.ins2651_rules.specs.Conditions.{transmit_enabled, may_start, break_on, listening}
 use Rattle.ins2651_rules.specs.Ranges.{in_range}
@@ -39,12 +39,12 @@ way_of d e =
 abbrev pub along_way : ℕ → Device → Device → Way
 along_way k d e = way_ticks (ends_of d e) k (way_of d e)
 
--- the device that sends, with its end of a way, and the one that receives, with its
+-- the device that sends, with its end of a way, and the one that receives, with its; the byte of each is as it was
 abbrev pub with_sent : Device → Way → Device
-with_sent d w = with_sender d w.sender (with_empty d.flags w.empty)
+with_sent d w = record d { sender = w.sender; flags = with_empty d.flags w.empty }
 
 abbrev pub with_heard : Device → Way → Device
-with_heard e w = with_receiver e w.receiver (with_errors e.flags w.faults.framing w.faults.overrun w.faults.parity)
+with_heard e w = record e { receiver = w.receiver; flags = with_errors e.flags w.faults.framing w.faults.overrun w.faults.parity }
 
 -- a device with its end of the way that leaves it and of the way that comes
 abbrev pub with_ends : Device → Way → Way → Device

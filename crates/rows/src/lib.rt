@@ -38,12 +38,16 @@ fn store(out: &mut [u8], at: usize, text: &[u8]) -> usize
     end
 }
 
-// A number behind its tab.
+// A number behind its tab. (A digit goes with its tab: by the library's buffer a line of digits takes two to three times as long.)
 #[inline(always)]
+#[tactic(auto, using(crate::proofs::Decimals::decimal_one))]
 fn field(out: &mut [u8], at: usize, n: u32) -> usize
     requires { at + length (9 ∷ Text.decimal n) ≤ length out.old }
     ensures { Put out.old at (9 ∷ Text.decimal n) out.new result }
 {
+    if n < 10 {
+        return store(out, at, &[b'\t', b'0' + (n % 10) as u8]);
+    }
     let e = store(out, at, b"\t");
     let mut digits = Buffer::new();
     store(out, e, digits.format(n).as_bytes())

@@ -186,7 +186,8 @@ fn reply(s: &mut Session) -> Result<Option<Shown>, Refusal>
     obey(&mut s.pair, r)
 }
 
-// A newline: the line under way is taken.
+// A newline: the line under way is taken. (Apart, so that the loop over the other bytes stays small.)
+#[inline(never)]
 #[tactic(auto, unfolding(session_rules::specs::Bytes::ended, session_rules::specs::Calls::said_text))]
 fn ended(s: &mut Session, out: &mut [u8], at: usize) -> usize
     requires { (at + 32 ≤ length out.old) × (s.old.lines < 65535) }
@@ -214,6 +215,7 @@ fn pushed(s: &mut Session, b: u8)
 }
 
 // Takes a byte, and answers where its text ends. After the last line that is taken nothing is looked at.
+#[inline(always)]
 #[tactic(auto, using(rows::proofs::Puts::none_put), unfolding(session_rules::specs::Bytes::after, session_rules::specs::Bytes::said))]
 fn step(s: &mut Session, b: u8, out: &mut [u8], at: usize) -> usize
     requires { at + 32 ≤ length out.old }

@@ -159,8 +159,9 @@ fn function_head(line: &str) -> Option<&str> {
     head.strip_prefix("fn ")?.split(['(', '<']).next()
 }
 
+/// Whether a source file has a function or a method; a type's own conversions, in the `impl` of a trait, are none.
 pub fn has_functions(source: &str) -> bool {
-    source.lines().any(|line| function_head(line).is_some())
+    source.lines().any(|line| function_head(line).is_some()) || !methods(source).is_empty()
 }
 
 /// The first and the last line of a function of a source file, or None where it has none of this name.
@@ -187,18 +188,49 @@ fn method_lines(source: &str, of: &str, name: &str) -> Option<(usize, usize)> {
     Some((start + first, start + first + length + 1))
 }
 
-/// The functions of a source file in which a line has this text; none where it stands between functions, as a constant does.
-pub fn functions_with<'a>(source: &'a str, text: &str) -> Vec<&'a str> {
-    let names = source.lines().filter_map(function_head);
-    let has = |name: &&str| {
-        let (first, last) = function_lines(source, name).unwrap_or((1, 0));
+/// The methods of a source file, each with its type: `Fields` and `push`.
+fn methods(source: &str) -> Vec<(&str, &str)> {
+    let mut of = None;
+    let mut found = Vec::new();
+    for line in source.lines() {
+        if let Some(head) = line.strip_prefix("impl ") {
+            of = head.strip_suffix(" {").filter(|name| !name.contains(' '));
+        } else if line == "}" {
+            of = None;
+        } else if let Some(of) = of {
+            found.extend(
+                line.strip_prefix("    ")
+                    .and_then(function_head)
+                    .map(|name| (of, name)),
+            );
+        }
+    }
+    found
+}
+
+/// The functions and methods of a source file in which a line has this text, by the names that an edit gives them; none where it stands between
+/// functions, as a constant does.
+pub fn functions_with(source: &str, text: &str) -> Vec<String> {
+    let functions = source
+        .lines()
+        .filter_map(function_head)
+        .map(|name| (name.to_string(), function_lines(source, name)));
+    let methods = methods(source)
+        .into_iter()
+        .map(|(of, name)| (format!("{of}::{name}"), method_lines(source, of, name)));
+    let has = |lines: Option<(usize, usize)>| {
+        let (first, last) = lines.unwrap_or((1, 0));
         source
             .lines()
             .take(last)
             .skip(first - 1)
             .any(|line| line.contains(text))
     };
-    names.filter(has).collect()
+    functions
+        .chain(methods)
+        .filter(|(_, lines)| has(*lines))
+        .map(|(name, _)| name)
+        .collect()
 }
 
 /// Where a function stands: its file of src/, and the folder of its proof files, below the crate's folder.

@@ -288,3 +288,24 @@ fn the_table_has_a_row_for_each_wrong_program() {
     });
     assert!(table(&bare).ends_with("| `line/wrong` | so \\| so | `f`, `g`; `h` with it |\n"));
 }
+
+#[test]
+fn a_wrong_body_names_the_method_that_it_stands_in() {
+    let room = room("method");
+    fs::write(
+        room.join("src/lib.rt"),
+        SOURCE.replace("        0\n", "        1\n"),
+    )
+    .unwrap();
+    let says = |at: &str| {
+        let text = format!(
+            "# wrong: so\n# refused at: {at}\nfile: src/lib.rt\nold:         0\nnew:         1\n"
+        );
+        faults(&edit(&text), &room, "logic=not-proved\n")
+            .iter()
+            .any(|fault| fault.contains("it changes Pair::plain"))
+    };
+    assert!(says("proved"));
+    assert!(!says("Pair::plain"));
+    fs::remove_dir_all(room).unwrap();
+}

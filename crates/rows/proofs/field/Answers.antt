@@ -7,12 +7,12 @@ use Rattle.rows.proofs.Decimals.{library_decimal}
 use Rattle.rows.proofs.Puts.{behind, room}
 use Rattle.rows.proofs.field.Goals as goal
 
-pub store-requires : goal.store-requires
-store-requires c =
+pub store-requires-2 : goal.store-requires-2
+store-requires-2 c =
     let e : c.as_bytes.result.now ≡ decimal c.args.n = c.as_bytes.ensures.value ∙ c.format.ensures.text ∙ library_decimal c.args.n c.ranges.n.fits in
     rw e (room (length (decimal c.args.n)) 1 c.store-e.ensures (omega arith) (omega (arith, c.requires)))
 
 pub returns : goal.returns
 returns c =
     let e : c.as_bytes.result.now ≡ decimal c.args.n = c.as_bytes.ensures.value ∙ c.format.ensures.text ∙ library_decimal c.args.n c.ranges.n.fits in
-    rw (← e) (behind c.store-e.ensures c.store.ensures)
+    rw (← e) (behind c.store-e.ensures c.store-2.ensures)
