@@ -23,6 +23,16 @@ use Rattle.board_walks.proofs.Shapes.{Stops, Single, always}
 use Rattle.board_walks.proofs.Promises.{does, named_plan, in_stops, in_single, in_whole, out_call, out_plan, out_stops, out_single, reset_stops, reset_whole, lines_stop, lines_whole, transmit_call, transmit_stops, transmit_single, outputs_call, outputs_stops, outputs_single, receive_call, receive_stops, receive_single, pins_call, pins_stops, pins_single}
 use Rattle.board_walks.proofs.Eight.{Polled, in_answers, lines_answer}
 
+-- == a call goes by its plan p: where p ends it, it is what p says; where it goes on, it leaves p's board ==
+
+module _ (p : Plan) {a r : ℕ} {b : Board} {ys zs : List Device} (ends : p.ends ≡ true → (a ≡ r) × ((p.board ≡ b) × (ys ≡ zs))) (on : p.ends ≡ false → p.board ≡ b) where
+  planned_by : Planned p a r b ys zs
+  planned_by = record { stored = sym (left p.ends refl); ended = λ h. let q = ends h in (sym q.0, sym q.1.1) }
+    where
+      left : (e : Bool) → p.ends ≡ e → p.board ≡ b
+      left true h = (ends h).1.0
+      left false h = on h
+
 -- == a call about one channel, whatever its plan ==
 
 module _ (l k u : ℕ) (S : Plans (host.past l k)) (P : host.Promise k) (Q : Promise (host.past l k)) (stops : Stops (host.past l k) S Q) (single : Single l k u S P Q always) (b : Board) (ys : List Device) (xs : Bytes (host.past l k)) where
@@ -30,11 +40,7 @@ module _ (l k u : ℕ) (S : Plans (host.past l k)) (P : host.Promise k) (Q : Pro
   p = S b (length ys) xs
 
   pub planned : Planned p p.answer (Q.answers b ys xs) (Q.board b ys xs) ys (Q.room b ys xs)
-  planned = record { stored = stored p.ends refl; ended = λ h. let q = stops b ys xs h in (sym q.0, sym q.1.1) }
-    where
-      stored : (e : Bool) → p.ends ≡ e → Q.board b ys xs ≡ p.board
-      stored true h = sym (stops b ys xs h).1.0
-      stored false h = sym (single.says b ys xs h refl).1.0
+  planned = planned_by p (stops b ys xs) (λ h. (single.says b ys xs h refl).1.0)
 
   pub by_plan : p.single ≡ true → AboutOne p (Q.answers b ys xs) (Q.board b ys xs) ys (Q.room b ys xs)
   by_plan one = (planned, (one, λ h. (_, sym (single.says b ys xs h refl).1.1)))
@@ -78,42 +84,21 @@ module _ (b : Board) (ys : List Device) where
     abbrev reads_by : Plan
     reads_by = plan_in b (length ys) port
 
-    in_stored : (e s : Bool) → reads_by.ends ≡ e → reads_by.single ≡ s → board_after b ys (In port) ≡ reads_by.board
-    in_stored true s h k = sym (in_stops b ys (port, tt) h).1.0
-    in_stored false true h k = sym (in_single.says b ys (port, tt) h k).1.0
-    in_stored false false h k = sym (in_whole.says b ys (port, tt) h (ap not k)).1.0
+    in_left : (s : Bool) → reads_by.single ≡ s → reads_by.ends ≡ false → reads_by.board ≡ board_after b ys (In port)
+    in_left true one h = (in_single.says b ys (port, tt) h one).1.0
+    in_left false all h = (in_whole.says b ys (port, tt) h (ap not all)).1.0
 
     pub in_by_plan : OneOrAll reads_by (answer b ys (In port)) (board_after b ys (In port)) ys (room_after b ys (In port))
-    in_by_plan = (
-      record { stored = in_stored reads_by.ends reads_by.single refl refl; ended = λ h. let q = in_stops b ys (port, tt) h in (sym q.0, sym q.1.1) },
-      λ h one. (_, sym (in_single.says b ys (port, tt) h one).1.1),
-    )
+    in_by_plan = (planned_by reads_by (in_stops b ys (port, tt)) (in_left reads_by.single refl), λ h one. (_, sym (in_single.says b ys (port, tt) h one).1.1))
 
     pub in_by_all : reads_by.ends ≡ false → reads_by.single ≡ false → answer b ys (In port) ≡ status_shown ys port
     in_by_all h all = sym (in_answers b ys reads_by h looked port refl all)
 
   pub reset_by_plan : let p = plan_reset b (length ys) in Planned p p.answer (answer b ys Reset) (board_after b ys Reset) ys (room_after b ys Reset)
-  reset_by_plan = record { stored = stored (plan_reset b (length ys)).ends refl; ended = λ h. let q = reset_stops b ys tt h in (sym q.0, sym q.1.1) }
-    where
-      stored : (e : Bool) → (plan_reset b (length ys)).ends ≡ e → board_after b ys Reset ≡ (plan_reset b (length ys)).board
-      stored true h = sym (reset_stops b ys tt h).1.0
-      stored false h = sym (reset_whole.says b ys tt h refl).1.0
+  reset_by_plan = planned_by (plan_reset b (length ys)) (reset_stops b ys tt) (λ h. (reset_whole.says b ys tt h refl).1.0)
 
   pub lines_by_plan : let p = plan_interrupts b (length ys) in Planned p (p.answer * 256) (answer b ys Interrupts) (board_after b ys Interrupts) ys (room_after b ys Interrupts)
-  lines_by_plan = record { stored = stored (plan_interrupts b (length ys)).ends refl; ended = λ h. let q = lines_stop b ys tt h in (sym q.0, sym q.1.1) }
-    where
-      stored : (e : Bool) → (plan_interrupts b (length ys)).ends ≡ e → board_after b ys Interrupts ≡ b
-      stored true h = sym (lines_stop b ys tt h).1.0
-      stored false h = sym (lines_whole.says b ys tt h refl).1.0
+  lines_by_plan = planned_by (plan_interrupts b (length ys)) (lines_stop b ys tt) (λ h. (lines_whole.says b ys tt h refl).1.0)
 
   pub lines_by_all : (plan_interrupts b (length ys)).ends ≡ false → answer b ys Interrupts ≡ lines_shown b ys
   lines_by_all h = sym (lines_answer b ys (plan_interrupts b (length ys)) h looked refl)
-
--- == of what a call answered and left: the form in which the proofs of `board` ask for it ==
-
-module _ (b : Board) (ys : List Device) (c : Call) {r : ℕ} {d : Board} {zs : List Device} where
-  pub goes : {p : Plan} → AboutOne p (answer b ys c) (board_after b ys c) ys (room_after b ys c) → r ≡ answer b ys c → d ≡ board_after b ys c → zs ≡ room_after b ys c → AboutOne p r d ys zs
-  goes is e f g = rw (e, f, g) is
-
-  pub goes_on : {p : Plan} {a : ℕ} → Planned p a (answer b ys c) (board_after b ys c) ys (room_after b ys c) → r ≡ answer b ys c → d ≡ board_after b ys c → zs ≡ room_after b ys c → Planned p a r d ys zs
-  goes_on is e f g = rw (e, f, g) is

@@ -133,7 +133,7 @@ pub fn ins2651_read(d: &mut Device, address: u8) -> u16
 }
 
 // Writes a register; answers its refusal.
-#[tactic(auto, using(crate::proofs::Told::write_told))]
+#[tactic(auto, using(crate::proofs::Told::write_told), unfolding(ins2651_rules::specs::RegisterWrites::write))]
 pub fn ins2651_write(d: &mut Device, address: u8, value: u8) -> u16
     ensures answer { result ≡ (RegisterWrites.write d.old address value).refusal }
     ensures device { d.new ≡ (RegisterWrites.write d.old address value).device }

@@ -16,7 +16,7 @@ use Rattle.rows.specs.declared.Row.{Row}
 use Rattle.rows.specs.declared.Row.TheVariants.{Value, Held, Waited, Refusal, Counts}
 use Rattle.std.specs.Fmt.{decimal as printed}
 use Rattle.std.proofs.lemmas.Fmt.{decimal_by_steps}
-use Rattle.rows.specs.Text.{glyph, two, four, digits, decimal, ended, value_text, held_text, wait_text, refusal_text, counts_text, row_text}
+use Rattle.rows.specs.Text.{glyph, two, three, four, digits, decimal, ended, value_text, held_text, wait_text, refusal_text, counts_text, row_text}
 
 more : (xs : List ℕ) (x : ℕ) → length (xs ++ x ∷ []) ≡ suc (length xs)
 more xs x = length-append xs (x ∷ []) ∙ omega arith
@@ -71,20 +71,27 @@ module _ (n : ℕ) (h : n < 4294967296) (some : 10 ≤ n) where
   unfolding decimal
   decimal_more = rw (le-ltb n 10 some, tenth)
 
--- several digits at a time
+-- several digits at a time: those of xs behind those of ys
+pieces : (n q r s : ℕ) (xs ys : List ℕ) → decimal n ≡ decimal q ++ xs → decimal q ≡ decimal r ++ ys → r ≡ s → decimal n ≡ decimal s ++ (ys ++ xs)
+pieces n q r s xs ys last before e = last ∙ ap (λ (l : List ℕ). l ++ xs) (before ∙ ap (λ (m : ℕ). decimal m ++ ys) e) ∙ append_assoc (decimal s) ys xs
+
 decimal_two_more : (n : ℕ) → n < 4294967296 → 100 ≤ n → decimal n ≡ decimal (n / 100) ++ two n
 decimal_two_more n h some =
-    let e : n / 10 / 10 ≡ n / 100 = omega arith in
-    decimal_more n h (omega arith)
-    ∙ ap (λ (l : List ℕ). l ++ glyph n ∷ []) (decimal_more (n / 10) (omega arith) (omega arith) ∙ ap (λ (m : ℕ). decimal m ++ glyph (n / 10) ∷ []) e)
-    ∙ append_assoc (decimal (n / 100)) (glyph (n / 10) ∷ []) (glyph n ∷ [])
+    pieces n (n / 10) (n / 10 / 10) (n / 100) (glyph n ∷ []) (glyph (n / 10) ∷ []) (decimal_more n h (omega arith)) (decimal_more (n / 10) (omega arith) (omega arith)) (omega arith)
+
+pub decimal_three_more : (n : ℕ) → n < 4294967296 → 1000 ≤ n → decimal n ≡ decimal (n / 1000) ++ three n
+decimal_three_more n h some =
+    pieces n (n / 100) (n / 100 / 10) (n / 1000) (two n) (glyph (n / 100) ∷ []) (decimal_two_more n h (omega arith)) (decimal_more (n / 100) (omega arith) (omega arith)) (omega arith)
 
 pub decimal_four_more : (n : ℕ) → n < 4294967296 → 10000 ≤ n → decimal n ≡ decimal (n / 10000) ++ four n
 decimal_four_more n h some =
-    let e : n / 100 / 100 ≡ n / 10000 = omega arith in
-    decimal_two_more n h (omega arith)
-    ∙ ap (λ (l : List ℕ). l ++ two n) (decimal_two_more (n / 100) (omega arith) (omega arith) ∙ ap (λ (m : ℕ). decimal m ++ two (n / 100)) e)
-    ∙ append_assoc (decimal (n / 10000)) (two (n / 100)) (two n)
+    pieces n (n / 100) (n / 100 / 100) (n / 10000) (two n) (two (n / 100)) (decimal_two_more n h (omega arith)) (decimal_two_more (n / 100) (omega arith) (omega arith)) (omega arith)
+
+pub decimal_two : (n : ℕ) → 10 ≤ n → n < 100 → decimal n ≡ two n
+decimal_two n some few = rw (decimal_more n (omega arith) some, decimal_one (n / 10) (omega arith)) refl
+
+pub decimal_three : (n : ℕ) → 100 ≤ n → n < 1000 → decimal n ≡ three n
+decimal_three n some few = rw (decimal_two_more n (omega arith) some, decimal_one (n / 100) (omega arith)) refl
 
 -- the library's text of a number
 pub library_decimal : (n : ℕ) → n < 4294967296 → printed n ≡ decimal n
@@ -95,6 +102,10 @@ library_decimal n h = decimal_by_steps (λ m ds. m < 4294967296 → ds ≡ decim
 
     further : (m : ℕ) (ds : List ℕ) → 10 ≤ m → (m / 10 < 4294967296 → ds ≡ decimal (m / 10)) → m < 4294967296 → ds ++ (48 + m % 10) ∷ [] ≡ decimal m
     further m ds some p low = rw (decimal_more m low some, ← p (omega arith)) refl
+
+-- .. as a call of it hands that over
+pub said_decimal : {bytes text : List ℕ} (n : ℕ) → n < 4294967296 → bytes ≡ text → text ≡ printed n → bytes ≡ decimal n
+said_decimal n h value text = value ∙ text ∙ library_decimal n h
 
 -- == what the numbers are ==
 

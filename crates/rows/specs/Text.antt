@@ -14,9 +14,12 @@ use Rattle.rows.specs.declared.Row.TheVariants.{Value, Held, Waited, Refusal, Co
 abbrev pub glyph : ℕ → ℕ
 glyph n = code "0" + n % 10
 
--- the last two, and the last four
+-- the last two, three and four
 abbrev pub two : ℕ → List ℕ
 two n = glyph (n / 10) ∷ glyph n ∷ []
+
+abbrev pub three : ℕ → List ℕ
+three n = glyph (n / 100) ∷ two n
 
 abbrev pub four : ℕ → List ℕ
 four n = two (n / 100) ++ two n

@@ -2,7 +2,7 @@
 // tab, and numbers are decimal without leading zeros.
 #![tactic(auto)]
 
-ghost use Rattle.std.specs.Prelude.{◌≡◌, ◌∷◌, ◌+◌, ◌≤◌, leb, length, Some};
+ghost use Rattle.std.specs.Prelude.{◌≡◌, ◌∷◌, ◌+◌, ◌≤◌, ◌<◌, leb, length, Some};
 ghost use Rattle.rows.specs.Text;
 ghost use Rattle.rows.specs.Text.{Put};
 
@@ -38,19 +38,87 @@ fn store(out: &mut [u8], at: usize, text: &[u8]) -> usize
     end
 }
 
-// A number behind its tab. (A digit goes with its tab: by the library's buffer a line of digits takes two to three times as long.)
+// The last digit of a number ..
 #[inline(always)]
-#[tactic(auto, using(crate::proofs::Decimals::decimal_one))]
+fn glyph(n: u32) -> u8
+    ensures { result ≡ Text.glyph n }
+{
+    b'0' + (n % 10) as u8
+}
+
+// .. and the last three.
+#[inline(always)]
+fn three(out: &mut [u8], at: usize, n: u32) -> usize
+    requires { at + 3 ≤ length out.old }
+    ensures { Put out.old at (Text.three n) out.new result }
+{
+    store(out, at, &[glyph(n / 100), glyph(n / 10), glyph(n)])
+}
+
+#[inline(always)]
+#[tactic(auto, using(crate::proofs::Decimals::decimal_one, crate::proofs::Decimals::decimal_two, crate::proofs::Decimals::decimal_three))]
+fn below_1000(out: &mut [u8], at: usize, n: u32) -> usize
+    requires { (at + length (Text.decimal n) ≤ length out.old) × (n < 1000) }
+    ensures { Put out.old at (Text.decimal n) out.new result }
+{
+    if n < 10 {
+        return store(out, at, &[glyph(n)]);
+    }
+    if n < 100 {
+        return store(out, at, &[glyph(n / 10), glyph(n)]);
+    }
+    three(out, at, n)
+}
+
+#[inline(always)]
+#[tactic(auto, using(crate::proofs::Threes::room_before, crate::proofs::Threes::room_for_three))]
+fn below_1000000(out: &mut [u8], at: usize, n: u32) -> usize
+    requires { (at + length (Text.decimal n) ≤ length out.old) × (n < 1000000) }
+    ensures { Put out.old at (Text.decimal n) out.new result }
+{
+    if n < 1000 {
+        return below_1000(out, at, n);
+    }
+    let e = below_1000(out, at, n / 1000);
+    three(out, e, n)
+}
+
+// A number as the library prints it, from a buffer of its own. (Not inlined: each row would hold it, and few numbers need it.)
+#[inline(never)]
+fn printed(out: &mut [u8], at: usize, n: u32) -> usize
+    requires { at + length (Text.decimal n) ≤ length out.old }
+    ensures { Put out.old at (Text.decimal n) out.new result }
+{
+    let mut digits = Buffer::new();
+    store(out, at, digits.format(n).as_bytes())
+}
+
+// Three digits at a time, and by the library where there are ten: by its buffer a row of fewer takes up to twice as long.
+#[inline(always)]
+#[tactic(auto, using(crate::proofs::Threes::room_before, crate::proofs::Threes::room_for_three))]
+fn decimal(out: &mut [u8], at: usize, n: u32) -> usize
+    requires { at + length (Text.decimal n) ≤ length out.old }
+    ensures { Put out.old at (Text.decimal n) out.new result }
+{
+    if n < 1000000 {
+        return below_1000000(out, at, n);
+    }
+    if n < 1000000000 {
+        let e = below_1000000(out, at, n / 1000);
+        return three(out, e, n);
+    }
+    printed(out, at, n)
+}
+
+// A number behind its tab.
+#[inline(always)]
+#[tactic(auto, using(crate::proofs::Puts::behind))]
 fn field(out: &mut [u8], at: usize, n: u32) -> usize
     requires { at + length (9 ∷ Text.decimal n) ≤ length out.old }
     ensures { Put out.old at (9 ∷ Text.decimal n) out.new result }
 {
-    if n < 10 {
-        return store(out, at, &[b'\t', b'0' + (n % 10) as u8]);
-    }
     let e = store(out, at, b"\t");
-    let mut digits = Buffer::new();
-    store(out, e, digits.format(n).as_bytes())
+    decimal(out, e, n)
 }
 
 // A line: what it begins with, its numbers, and the newline.
@@ -81,9 +149,12 @@ fn say(out: &mut [u8], at: usize, row: Row) -> usize
             &[b'R', b'\t', unit],
             &[address.into(), value.into()],
         ),
-        Row::Held { unit, value, stamp } => {
-            line(out, at, &[b'R', b'\t', unit], &[0, value.into(), stamp.0])
-        }
+        Row::Held { unit, value, stamp } => line(
+            out,
+            at,
+            &[b'R', b'\t', unit, b'\t', b'0'],
+            &[value.into(), stamp.0],
+        ),
         Row::Waited { unit, count } => line(out, at, &[b'B', b'\t', unit], &[count.into()]),
         Row::Refusal {
             line: taken,

@@ -44,7 +44,8 @@ pub wait_says :
     (p : Pair) (unit : Unit) (limit : ℕ) → limit ≤ 65535
     → obey p (Wait unit limit) ≡ record { pair = ticks (ticks_until p unit limit) p; said = Ok (Some (shows.Waited unit (ticks_until p unit limit))) }
 unfolding obey
-wait_says p unit limit h = rw (wait_done p unit limit h)
+wait_says p unit.A limit h = rw (wait_done p unit.A limit h)
+wait_says p unit.B limit h = rw (wait_done p unit.B limit h)
 
 -- == which number ==
 

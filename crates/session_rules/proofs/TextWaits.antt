@@ -23,7 +23,7 @@ use Rattle.rows.specs.Text.{row_text}
 use Rattle.session_rules.specs.Calls.{Reply, obey, said_text}
 use Rattle.session_rules.specs.Steps.{pair_after}
 use Rattle.session_rules.specs.Delivered.{Parted, Meets, format_from, MeetsFrom, letter_at, end, TextStops}
-use Rattle.session_rules.proofs.Lines.{moved_append, lines_are_steps}
+use Rattle.session_rules.proofs.Lines.{moved_append, lines_are_steps, wait_says}
 use Rattle.session_rules.proofs.Shapes.{printed_obeyed}
 
 -- the two units behind the lines are those behind the run
@@ -49,11 +49,11 @@ module _ (f : Format) (u : Unit) {lines : List (List ℕ)} (l : Parted lines) (s
   p = pair_after just_reset lines
 
   in_time_lem : TextStops f u lines (end (sender_to u) l)
-  unfolding obey said_text row_text
+  unfolding said_text row_text
   in_time_lem awaited limit line printed h most n =
       let s : StopsInTime f u (wait p u limit) = subst (λ (q : Pair). StopsInTime f u (wait q u limit)) (end_is (sender_to u) l) (stops awaited limit h most) in
-      let e = printed_obeyed p printed in
-      record { waited = wait p u limit; shown = rw (e, wait_done p u limit most, named u); left = ap (λ (q : Reply). q.pair) e; stops = s }
+      let e = printed_obeyed p printed ∙ wait_says p u limit most in
+      record { waited = wait p u limit; shown = rw (e, wait_done p u limit most, named u); left = rw (e, wait_done p u limit most); stops = s }
 
 -- one way, whatever happens on the other
 pub one_way_text_waits : (u : Unit) (lines : List (List ℕ)) (m : MeetsFrom (sender_to u) lines) → TextStops (format_from (sender_to u) m.parted) u lines (end (sender_to u) m.parted)

@@ -3,7 +3,7 @@
 use Rattle.std.proofs.Common.{arith}
 use Rattle.std.specs.Prelude.{Some}
 use Rattle.rows.specs.declared.Row.TheVariants.{Value, Held, Waited, Refusal, Counts}
-use Rattle.rows.specs.Text.{row_text, value_text, held_text, wait_text, refusal_text, counts_text}
+use Rattle.rows.specs.Text.{decimal, row_text, value_text, held_text, wait_text, refusal_text, counts_text}
 use Rattle.rows.proofs.Decimals.{row_short}
 use Rattle.rows.proofs.say.Goals as goal
 
@@ -12,7 +12,7 @@ unfolding row_text value_text
 line-requires c = rw (c.into.ensures, c.into-in-Value.ensures) (omega (arith, c.requires, row_short (Some (Value c.in-Value.unit c.in-Value.address c.in-Value.value))))
 
 pub line-requires-in-Held : goal.line-requires-in-Held
-unfolding row_text held_text
+unfolding row_text held_text decimal
 line-requires-in-Held c = rw c.into-in-Held.ensures (omega (arith, c.requires, row_short (Some (Held c.in-Held.unit c.in-Held.value c.in-Held.stamp))))
 
 pub line-requires-in-Waited : goal.line-requires-in-Waited
@@ -32,7 +32,7 @@ unfolding row_text value_text
 returns-in-Value c = rw (c.in-Value.is, ← c.into.ensures, ← c.into-in-Value.ensures) c.line.ensures
 
 pub returns-in-Held : goal.returns-in-Held
-unfolding row_text held_text
+unfolding row_text held_text decimal
 returns-in-Held c = rw (c.in-Held.is, ← c.into-in-Held.ensures) c.line-in-Held.ensures
 
 pub returns-in-Waited : goal.returns-in-Waited
