@@ -20,7 +20,7 @@ use Rattle.std.specs.Prelude.{Some}
 use Rattle.records.specs.Printed.{letter_of_unit}
 use Rattle.records.specs.Records.{unit_named}
 use Rattle.rows.specs.Text.{row_text}
-use Rattle.session_rules.specs.Calls.{Reply, obey, said_text}
+use Rattle.session_rules.specs.Calls.{said_text}
 use Rattle.session_rules.specs.Steps.{pair_after}
 use Rattle.session_rules.specs.Delivered.{Parted, Meets, format_from, MeetsFrom, letter_at, end, TextStops}
 use Rattle.session_rules.proofs.Lines.{moved_append, lines_are_steps, wait_says}
